@@ -16,7 +16,7 @@ pub fn align_get_range(range: GetRange, part_size: PartSize) -> Result<GetRange,
             };
             Ok(GetRange::Bounded(part_size.round_down(start), end_aligned))
         }
-        GetRange::Offset(start) => Ok(GetRange::Offset(part_size.round_down(start))),
+        GetRange::Offset(offset) => Ok(GetRange::Offset(part_size.round_down(offset))),
         GetRange::Suffix(length) => {
             let Some(length_aligned) = part_size.round_up(length) else {
                 return Err(AlignOverflow { requested: length });

@@ -22,14 +22,14 @@ pub fn canonicalize_range(range: GetRange, object_size: u64) -> Result<ByteRange
             }
             ByteRange::new(start, end.min(object_size))
         }
-        GetRange::Offset(start) => {
-            if start >= object_size {
+        GetRange::Offset(offset) => {
+            if offset >= object_size {
                 return Err(InvalidGetRange::StartTooLarge {
-                    requested: start,
+                    requested: offset,
                     length: object_size,
                 });
             }
-            ByteRange::new(start, object_size)
+            ByteRange::new(offset, object_size)
         }
         GetRange::Suffix(length) => ByteRange::new(object_size.saturating_sub(length), object_size),
     }
