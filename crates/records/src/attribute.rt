@@ -1,0 +1,38 @@
+// The attributes of an object.
+ghost use Prim.Native.Nat.{_≤_, _<_};
+ghost use mathlib.Core.Path.{_≡_};
+ghost use lib.ListN.{length};
+ghost use Rattle.std.specs.Results.{Cases as ByOk};
+ghost use Rattle.records.specs.Padded.{held};
+ghost use Rattle.records.specs.Limits.{KeyLong, of-head, invalid-head};
+use crate::bytes64::Bytes64;
+use crate::refused::InvalidHead;
+
+// The name of an attribute: 1 to 32 bytes.
+#[derive(Clone, Copy)]
+pub struct Key {
+    name: Bytes64,
+    ghost long: { KeyLong (name .len) },
+}
+
+impl Key {
+    // Another length is refusal 3.
+    pub fn new(bytes: &[u8]) -> Result<Key, InvalidHead>
+        ensures { λ r. ⌜ ByOk r (λ k. KeyLong (length (now (bytes .entry))) × (held (k .name .len) (k .name .bytes) ≡ now (bytes .entry))) (λ e. (KeyLong (length (now (bytes .entry))) → ⊥) × (of-head e ≡ invalid-head 6 (length (now (bytes .entry))))) ⌝ }
+    {
+        let length = bytes.len();
+        let Some(name) = Bytes64::new(bytes) else {
+            return Err(InvalidHead::Key(length));
+        };
+        if length < 1 || length > 32 {
+            return Err(InvalidHead::Key(length));
+        }
+        Ok(Key { name })
+    }
+
+    pub fn as_slice(&self) -> &[u8]
+        ensures { λ r. ⌜ now r ≡ held (now (self .entry) .name .len) (now (self .entry) .name .bytes) ⌝ }
+    {
+        self.name.as_slice()
+    }
+}

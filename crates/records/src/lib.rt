@@ -1,0 +1,22 @@
+// What stores, caches and layers speak of: paths, heads, call tags and requests, each within its limits
+// from its making on.
+//
+// Uses `ranges`. Every crate above may use it.
+// Promises: a maker gives the value that it was asked for, or refuses it (2 a path, 3 what a head holds)
+// exactly where it is past its limits. Equal contents are equal values.
+mod attribute;
+mod bytes64;
+mod label;
+mod path;
+mod refused;
+mod tag;
+
+pub use attribute::Key;
+pub use bytes64::Bytes64;
+pub use label::Label;
+pub use path::Path;
+pub use refused::InvalidHead;
+pub use refused::InvalidPath;
+pub use tag::ObjectStoreCallTag;
+pub use tag::SstType;
+pub use tag::TableStoreKind;
