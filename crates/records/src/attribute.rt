@@ -36,3 +36,21 @@ impl Key {
         self.name.as_slice()
     }
 }
+
+// What an attribute is: one of five known ones, or metadata under a key of its own.
+#[derive(Clone, Copy)]
+pub enum Attribute {
+    CacheControl,
+    ContentDisposition,
+    ContentEncoding,
+    ContentLanguage,
+    ContentType,
+    Metadata(Key),
+}
+
+// An attribute and its value.
+#[derive(Clone, Copy)]
+pub struct AttributeEntry {
+    pub attribute: Attribute,
+    pub value: Bytes64,
+}

@@ -1,6 +1,7 @@
 // Up to 64 bytes, held in place.
 ghost use Prim.Native.Nat.{_<_};
 ghost use mathlib.Core.Path.{_≡_};
+ghost use mathlib.Core.List.{[]};
 ghost use lib.ListN.{length};
 ghost use Rattle.std.specs.Options.{Cases as BySome};
 ghost use Rattle.records.specs.Padded.{Padded, held};
@@ -27,6 +28,15 @@ impl Bytes64 {
             held[i] = *b;
         }
         Some(Bytes64 { bytes: held, len })
+    }
+
+    pub fn empty() -> Bytes64
+        ensures { λ r. ⌜ held (r .len) (r .bytes) ≡ [] ⌝ }
+    {
+        Bytes64 {
+            bytes: [0; 64],
+            len: 0,
+        }
     }
 
     pub fn as_slice(&self) -> &[u8]

@@ -5,16 +5,28 @@
 // Promises: a maker gives the value that it was asked for, or refuses it (2 a path, 3 what a head holds)
 // exactly where it is past its limits. Equal contents are equal values.
 mod attribute;
+mod attributes;
 mod bytes64;
+mod head;
 mod label;
+mod messages;
+mod names;
 mod path;
 mod refused;
 mod tag;
 
+pub use attribute::Attribute;
+pub use attribute::AttributeEntry;
 pub use attribute::Key;
+pub use attributes::Attributes;
 pub use bytes64::Bytes64;
+pub use head::Head;
 pub use label::Label;
+pub use messages::BufferTooShortDisplay;
+pub use messages::InvalidHeadDisplay;
+pub use messages::InvalidPathDisplay;
 pub use path::Path;
+pub use refused::BufferTooShort;
 pub use refused::InvalidHead;
 pub use refused::InvalidPath;
 pub use tag::ObjectStoreCallTag;

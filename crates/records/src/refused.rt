@@ -24,3 +24,10 @@ pub enum InvalidHead {
     // an attribute's value of this many bytes
     Value(usize),
 }
+
+// Refusal 4: a buffer of `length` bytes where `needed` are needed.
+#[derive(Clone, Copy, Debug, PartialEq, Eq)]
+pub struct BufferTooShort {
+    pub length: usize,
+    pub needed: usize,
+}

@@ -1,0 +1,6 @@
+use native.Mathlib.Omega.{arith}
+use Rattle.std.proofs.shelf.Lists.{take-more-set}
+use Rattle.records.proofs.attributes.Attributes.push.Needs as need
+
+pub returns : need.returns
+returns c = (omega arith, take-more-set (c .args .self .now .entries) (c .args .self .now .len) (c .args .entry) (omega arith))
