@@ -31,7 +31,8 @@ impl Key {
     }
 
     pub fn as_slice(&self) -> &[u8]
-        ensures { λ r. ⌜ now r ≡ held (now (self .entry) .name .len) (now (self .entry) .name .bytes) ⌝ }
+        ensures value { λ r. ⌜ now r ≡ held (now (self .entry) .name .len) (now (self .entry) .name .bytes) ⌝ }
+        ensures long { λ r. ⌜ KeyLong (length (now r)) ⌝ }
     {
         self.name.as_slice()
     }

@@ -1,5 +1,5 @@
 // Up to 64 bytes, held in place.
-ghost use Prim.Native.Nat.{_<_};
+ghost use Prim.Native.Nat.{_≤_, _<_};
 ghost use mathlib.Core.Path.{_≡_};
 ghost use mathlib.Core.List.{[]};
 ghost use lib.ListN.{length};
@@ -40,7 +40,8 @@ impl Bytes64 {
     }
 
     pub fn as_slice(&self) -> &[u8]
-        ensures { λ r. ⌜ now r ≡ held (now (self .entry) .len) (now (self .entry) .bytes) ⌝ }
+        ensures value { λ r. ⌜ now r ≡ held (now (self .entry) .len) (now (self .entry) .bytes) ⌝ }
+        ensures len { λ r. ⌜ (length (now r) ≡ now (self .entry) .len) × (length (now r) ≤ 64) ⌝ }
     {
         &self.bytes[0..self.len]
     }

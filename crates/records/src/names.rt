@@ -1,6 +1,8 @@
 // The names by which attributes are stored.
 ghost use mathlib.Core.Path.{_≡_};
 ghost use Rattle.std.specs.Orderings.{Decides};
+ghost use lib.ListN.{length};
+ghost use Rattle.records.specs.Limits.{KeyLong};
 ghost use Rattle.records.specs.Names.{name-of, Named};
 use crate::attribute::Attribute;
 use crate::attribute::Key;
@@ -8,7 +10,8 @@ use crate::attribute::Key;
 impl Attribute {
     // The name of a known attribute, the key of metadata.
     pub fn name(&self) -> &[u8]
-        ensures { λ r. ⌜ now r ≡ name-of (now (self .entry)) ⌝ }
+        ensures value { λ r. ⌜ now r ≡ name-of (now (self .entry)) ⌝ }
+        ensures long { λ r. ⌜ KeyLong (length (now r)) ⌝ }
     {
         match self {
             Attribute::CacheControl => b"Cache-Control",
