@@ -1,5 +1,5 @@
 // The attributes of a head, in the order in which they were given.
-ghost use Prim.Native.Nat.{_≤_, _<_};
+ghost use Prim.Native.Nat.{_+_, _≤_, _<_};
 ghost use mathlib.Core.Path.{_≡_};
 ghost use mathlib.Core.List.{[], _∷_, _++_};
 ghost use lib.ListN.{length, take};
@@ -33,7 +33,7 @@ impl Attributes {
 
     // One more at the end; a ninth is refusal 3.
     pub fn push(&mut self, entry: AttributeEntry) -> Result<(), InvalidHead>
-        ensures { λ r. ⌜ ByOk r (λ _. (now (self .entry) .len < 8) × (take (now (self .exit) .len) (now (self .exit) .entries) ≡ take (now (self .entry) .len) (now (self .entry) .entries) ++ (entry ∷ []))) (λ e. (now (self .entry) .len ≡ 8) × (of-head e ≡ invalid-head 5 9) × (now (self .exit) ≡ now (self .entry))) ⌝ }
+        ensures { λ r. ⌜ ByOk r (λ _. (now (self .entry) .len < 8) × (now (self .exit) .len ≡ now (self .entry) .len + 1) × (take (now (self .exit) .len) (now (self .exit) .entries) ≡ take (now (self .entry) .len) (now (self .entry) .entries) ++ (entry ∷ []))) (λ e. (now (self .entry) .len ≡ 8) × (of-head e ≡ invalid-head 5 9) × (now (self .exit) ≡ now (self .entry))) ⌝ }
     {
         let len = self.len;
         if len >= 8 {

@@ -1,2 +1,4 @@
 pub mod Groups
 pub mod Marked
+pub mod Named
+pub mod Sequence

@@ -1,0 +1,48 @@
+-- The stored form of a head.
+use Prim.Native.Nat.{ℕ, _+_, _≤_, _<_}
+use mathlib.Core.Path.{_≡_}
+use mathlib.Core.List.{List, [], _∷_, _++_, map}
+use lib.ListN.{length, take, drop}
+use Rattle.std.specs.declared.option.Option.{Option}
+use Rattle.std.specs.declared.option.Option.the-variants.{None, Some}
+use Rattle.records.specs.declared.attribute.AttributeEntry.{AttributeEntry}
+use Rattle.records.specs.declared.attributes.Attributes.{Attributes}
+use Rattle.records.specs.Limits.{KeyLong, SizeWithin, TimeWithin}
+use Rattle.records.specs.Names.{name-of}
+use Rattle.records.specs.Padded.{held}
+use Rattle.stored_head.specs.Forms.{sized, label-form, LabelWithin, Stands}
+use Rattle.stored_head.specs.Numbers.{Formed}
+
+-- an attribute as it is stored: its name and its value
+abbrev pub Named : Type 0
+Named = List ℕ × List ℕ
+
+abbrev pub pair : AttributeEntry → Named
+pair e = (name-of (e .attribute), held (e .value .len) (e .value .bytes))
+
+abbrev pub pairs : List AttributeEntry → List Named
+pairs es = map pair es
+
+unfoldable pub attributes-form : List Named → List ℕ
+attributes-form [] = []
+attributes-form (a ∷ more) = sized (a .0) ++ (sized (a .1) ++ attributes-form more)
+
+-- the limits of attributes
+unfoldable pub AttributesWithin : List Named → Type 0
+AttributesWithin [] = Unit {0}
+AttributesWithin (a ∷ more) = KeyLong (length (a .0)) × (length (a .1) ≤ 64) × AttributesWithin more
+
+-- `left` attributes stand at `at`: r has them behind those that were known
+pub record AttributesStand (bytes : List ℕ) (at left : ℕ) (known es : List AttributeEntry) (next : ℕ) : Type 0 where
+  pub added : List Named
+  pub count : length added ≡ left
+  pub within : AttributesWithin added
+  pub joined : pairs es ≡ pairs known ++ added
+  pub stand : Stands bytes at (attributes-form added) next
+
+pub record NoAttributes (bytes : List ℕ) (at left : ℕ) : Type 0 where
+  pub never : (named : List Named) (rest : List ℕ) → length named ≡ left → AttributesWithin named → drop at bytes ≡ attributes-form named ++ rest → ⊥
+
+abbrev pub AttributesRead : (bytes : List ℕ) (at left : ℕ) (known : List AttributeEntry) → Option (Attributes × ℕ) → Type 0
+AttributesRead bytes at left known None = NoAttributes bytes at left
+AttributesRead bytes at left known (Some r) = AttributesStand bytes at left known (take (r .0 .len) (r .0 .entries)) (r .1)
