@@ -45,7 +45,8 @@ impl Attributes {
     }
 
     pub fn as_slice(&self) -> &[AttributeEntry]
-        ensures { λ r. ⌜ now r ≡ take (now (self .entry) .len) (now (self .entry) .entries) ⌝ }
+        ensures value { λ r. ⌜ now r ≡ take (now (self .entry) .len) (now (self .entry) .entries) ⌝ }
+        ensures len { λ r. ⌜ (length (now r) ≡ now (self .entry) .len) × (length (now r) ≤ 8) ⌝ }
     {
         &self.entries[0..self.len]
     }

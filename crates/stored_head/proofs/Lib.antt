@@ -2,3 +2,4 @@ pub mod Groups
 pub mod Marked
 pub mod Named
 pub mod Sequence
+pub mod Whole

@@ -7,9 +7,10 @@ use Rattle.std.specs.declared.option.Option.{Option}
 use Rattle.std.specs.declared.option.Option.the-variants.{None, Some}
 use Rattle.records.specs.declared.attribute.AttributeEntry.{AttributeEntry}
 use Rattle.records.specs.declared.attributes.Attributes.{Attributes}
+use Rattle.records.specs.declared.head.Head.{Head}
 use Rattle.records.specs.Limits.{KeyLong, SizeWithin, TimeWithin}
 use Rattle.records.specs.Names.{name-of}
-use Rattle.records.specs.Padded.{held}
+use Rattle.records.specs.Padded.{held, labelled}
 use Rattle.stored_head.specs.Forms.{sized, label-form, LabelWithin, Stands}
 use Rattle.stored_head.specs.Numbers.{Formed}
 
@@ -46,3 +47,45 @@ pub record NoAttributes (bytes : List ℕ) (at left : ℕ) : Type 0 where
 abbrev pub AttributesRead : (bytes : List ℕ) (at left : ℕ) (known : List AttributeEntry) → Option (Attributes × ℕ) → Type 0
 AttributesRead bytes at left known None = NoAttributes bytes at left
 AttributesRead bytes at left known (Some r) = AttributesStand bytes at left known (take (r .0 .len) (r .0 .entries)) (r .1)
+
+-- what a stored head tells: kinds of attributes are not stored, only names
+pub record HeadData : Type 0 where
+  pub size : ℕ
+  pub time : ℕ
+  pub e-tag : Option (List ℕ)
+  pub version : Option (List ℕ)
+  pub attributes : List Named
+
+abbrev pub data-of : Head → HeadData
+data-of h = record {
+    size = h .size;
+    time = h .time;
+    e-tag = labelled (h .«e_tag» .len) (h .«e_tag» .bytes);
+    version = labelled (h .version .len) (h .version .bytes);
+    attributes = pairs (take (h .attributes .len) (h .attributes .entries)) }
+
+-- the limits of a head
+pub record Within (d : HeadData) : Type 0 where
+  pub size : SizeWithin (d .size)
+  pub time : TimeWithin (d .time)
+  pub e-tag : LabelWithin (d .e-tag)
+  pub version : LabelWithin (d .version)
+  pub few : length (d .attributes) ≤ 8
+  pub attributes : AttributesWithin (d .attributes)
+
+-- behind size and time: e_tag, version, the number of attributes, and each of them
+abbrev pub rest-form : HeadData → List ℕ
+rest-form d = label-form (d .e-tag) ++ (label-form (d .version) ++ ((length (d .attributes) ∷ []) ++ attributes-form (d .attributes)))
+
+-- bs is the stored form of d
+pub record Stored (d : HeadData) (bs : List ℕ) : Type 0 where
+  pub size : Formed (d .size)
+  pub time : Formed (d .time)
+  pub joined : bs ≡ size .bytes ++ (time .bytes ++ rest-form d)
+
+-- the stored form of d was written at the beginning of out, and has n bytes
+pub record Saved (out : List ℕ) (d : HeadData) (n : ℕ) (after : List ℕ) : Type 0 where
+  pub bytes : List ℕ
+  pub form : Stored d bytes
+  pub count : n ≡ length bytes
+  pub joined : after ≡ bytes ++ drop n out

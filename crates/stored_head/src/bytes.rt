@@ -48,6 +48,17 @@ pub(crate) fn write_label(out: &mut [u8], at: usize, label: &Label) -> usize
     }
 }
 
+// How many bytes an e_tag or a version takes.
+pub(crate) fn label_len(label: &Label) -> usize
+    ensures value { λ r. ⌜ r ≡ length (label-form (labelled (now (label .entry) .len) (now (label .entry) .bytes))) ⌝ }
+    ensures bound { λ r. ⌜ r ≤ 65 ⌝ }
+{
+    match label.get() {
+        Some(bytes) => bytes.len() + 1,
+        None => 1,
+    }
+}
+
 // The key or value that stands at `at`, of `least` to `most` bytes, and the place behind it.
 pub(crate) fn read_sized(bytes: &[u8], at: usize, least: usize, most: usize) -> Option<(Bytes64, usize)>
     requires { ⌜ most ≤ 64 ⌝ }

@@ -5,4 +5,5 @@
 // (4) and leaves it as it was; reading accepts exactly the stored forms of heads within their limits.
 mod attributes;
 mod bytes;
+mod head;
 mod numbers;
