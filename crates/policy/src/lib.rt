@@ -1,6 +1,6 @@
 // What a call may do with the cache, decided by its tag alone.
 //
-// Uses `records`. Every crate above may use it.
+// Uses `records` and, below it, `ranges`. Every crate above may use it.
 // Promises: a policy gives one tag always the same action. The default policies give those of the tables of
 // docs/RULES.md, a fixed policy those that it was made with. By the tables no untagged call and none for
 // the log touches the cache, and a get that is made again is never answered from what is held.
