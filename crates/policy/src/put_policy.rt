@@ -1,5 +1,4 @@
 // Which puts and uploads are cached.
-ghost use denote.Ref.{now};
 ghost use mathlib.Core.Path.{_≡_};
 ghost use Rattle.std.specs.declared.option.Option.{Option};
 ghost use Rattle.records.specs.declared.tag.ObjectStoreCallTag.{ObjectStoreCallTag};
