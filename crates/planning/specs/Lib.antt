@@ -1,2 +1,4 @@
+pub mod Messages
+pub mod Placed
 pub mod Planned
 pub mod Words

@@ -1,21 +1,21 @@
 // What comes of a request: the bytes of its answer, and what goes down to the store when no head is held.
-ghost use Rattle.planning.specs.Planned.{At, Answers, Fetches};
+ghost use mathlib.Core.Path.{_≡_};
+ghost use Rattle.planning.specs.Planned.{At, Answers, Fetches, refused-held, refused-not-held};
+use crate::cut::Cut;
 use crate::request::Request;
 use ranges::AlignOverflow;
 use ranges::ByteRange;
 use ranges::GetRange;
 use ranges::InvalidGetRange;
 use ranges::PartSize;
-use ranges::Pieces;
 use ranges::align_get_range;
 use ranges::canonicalize_range;
-use ranges::split_range_into_parts;
 
-// The bytes that are asked for and their pieces, or refusal 6.
+// What an open with a held head answers: the bytes that are asked for, in pieces, or refusal 6.
 #[derive(Clone, Copy)]
 pub enum Answer {
     Refused(InvalidGetRange),
-    Bytes { range: ByteRange, pieces: Pieces },
+    Bytes(Cut),
 }
 
 // What comes of the open that goes down when no head is held.
@@ -29,11 +29,18 @@ pub enum Prefetch {
         why: InvalidGetRange,
     },
     // refusal 8: the body begins inside a part
-    OffMultiple { request: GetRange, body: ByteRange },
+    OffMultiple {
+        request: GetRange,
+        body: ByteRange,
+    },
     // the body begins with a part
-    Body { request: GetRange, body: ByteRange },
+    Body {
+        request: GetRange,
+        body: ByteRange,
+    },
 }
 
+// What comes of a request: its answer, and before it, when no head is held, the prefetch.
 #[derive(Clone, Copy)]
 pub struct Plan {
     pub answer: Answer,
@@ -53,10 +60,7 @@ fn answer_to(request: Request) -> Answer
 {
     match canonicalize_range(request.range, request.object_size) {
         Err(why) => Answer::Refused(why),
-        Ok(range) => Answer::Bytes {
-            range,
-            pieces: split_range_into_parts(range, request.part_size),
-        },
+        Ok(range) => Answer::Bytes(Cut::new(range, request.part_size)),
     }
 }
 
@@ -89,6 +93,26 @@ impl Plan {
         Plan {
             answer: answer_to(request),
             prefetch: prefetch_of(request),
+        }
+    }
+
+    // Whether an open with a held head is refused.
+    pub fn refused_held(&self) -> bool
+        ensures { λ r. ⌜ r ≡ refused-held (now (self .entry) .answer) ⌝ }
+    {
+        match self.answer {
+            Answer::Refused(_) => true,
+            Answer::Bytes(_) => false,
+        }
+    }
+
+    // Whether an open with no head held is refused: by the prefetch, or by the answer after it.
+    pub fn refused_not_held(&self) -> bool
+        ensures { λ r. ⌜ r ≡ refused-not-held (now (self .entry) .prefetch) (now (self .entry) .answer) ⌝ }
+    {
+        match self.prefetch {
+            Prefetch::Body { .. } => self.refused_held(),
+            _ => true,
         }
     }
 }
