@@ -25,14 +25,15 @@ fn answer_line(rt: &LibcRuntime, number: u64, line: &str) -> io::Result<Said> {
     println!(rt, "line {number}: {line}")?;
     match read_request(words.as_slice()) {
         Err(fault) => {
-            println!(rt, "    no request: {fault}")?;
+            println!(rt, "    no request: {fault}\n")?;
             Ok(Said::NoRequest)
         }
         Ok(request) => {
             let plan = Plan::of(request);
             show::answer(rt, plan.answer)?;
-            show::prefetch(rt, plan.prefetch, request.part_size)?;
+            show::prefetch(rt, plan, request.part_size)?;
             show::pieces(rt, plan.answer)?;
+            println!(rt, "")?;
             Ok(Said::Request(plan))
         }
     }

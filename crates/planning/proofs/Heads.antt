@@ -10,7 +10,7 @@ use lib.ListN.{length, getD, take, drop}
 use Rattle.std.proofs.shelf.Lists.{take-all}
 use Rattle.std.specs.declared.result.Result.{Result}
 use Rattle.ranges.specs.declared.get_range.GetRange.{GetRange}
-use Rattle.planning.specs.declared.request.Kind.{Kind}
+use Rattle.planning.specs.declared.words.Kind.{Kind}
 use Rattle.planning.specs.declared.request.NoRequest.{NoRequest}
 use Rattle.planning.specs.Words.{Word, Number, Leads, Begins, AfterTo, AfterStart, text-of}
 

@@ -1,2 +1,3 @@
-pub mod Multiples
 pub mod Heads
+pub mod Lined
+pub mod Multiples

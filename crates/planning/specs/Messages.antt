@@ -20,7 +20,7 @@ written (Suffix length) = codes "tail " ++ decimal length
 abbrev pub field-name : Field → List ℕ
 field-name field.ObjectSize = codes "the object size (word 1)"
 field-name field.PartSize = codes "the part size (word 2)"
-field-name field.Kind = codes "all, from or tail (word 3)"
+field-name field.Kind = codes "the word all, from or tail (word 3)"
 field-name field.Start = codes "the start (word 4)"
 field-name field.End = codes "the end (word 6)"
 field-name field.Length = codes "the length (word 4)"
@@ -30,5 +30,5 @@ fault-message (Missing f) = codes "the line ends before " ++ field-name f
 fault-message (NotANumber f) = field-name f ++ codes " is no decimal number from 0 to 18446744073709551615"
 fault-message (BadPartSize bad) = codes "refused 1: " ++ part-size-message bad
 fault-message UnknownRange = codes "word 3 is none of all, from and tail"
-fault-message NoTo = codes "word 5 is not to"
+fault-message NoTo = codes "only the word to may follow the start (word 4)"
 fault-message Surplus = codes "words follow the end of the request"

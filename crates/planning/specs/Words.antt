@@ -14,8 +14,8 @@ use Rattle.ranges.specs.declared.get_range.GetRange.{GetRange}
 use Rattle.ranges.specs.declared.get_range.GetRange.the-variants.{All, Bounded, Offset, Suffix}
 use Rattle.planning.specs.declared.request.Field.{Field}
 use Rattle.planning.specs.declared.request.Field.the-variants as field
-use Rattle.planning.specs.declared.request.Kind.{Kind}
-use Rattle.planning.specs.declared.request.Kind.the-variants as kind
+use Rattle.planning.specs.declared.words.Kind.{Kind}
+use Rattle.planning.specs.declared.words.Kind.the-variants as kind
 use Rattle.planning.specs.declared.request.NoRequest.{NoRequest}
 use Rattle.planning.specs.declared.request.NoRequest.the-variants.{Missing, NotANumber, BadPartSize, UnknownRange, NoTo, Surplus}
 use Rattle.planning.specs.declared.request.Request.{Request}

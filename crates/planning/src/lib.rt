@@ -5,7 +5,7 @@
 // begins with `#` begins a comment. Promises: `read_request` answers exactly the request that the words say,
 // or the first thing that is wrong with them from the left; `Plan::of` answers exactly what an open of it
 // comes to when a head is held, and what goes down when none is; a `Cut` has each piece at its place in the
-// object. That `words_of` splits a line at its white space is only tested.
+// object; `words_of` answers the words of a line up to its comment, unless memory fails.
 mod cut;
 mod messages;
 mod plan;
@@ -23,7 +23,6 @@ pub use plan::Answer;
 pub use plan::Plan;
 pub use plan::Prefetch;
 pub use request::Field;
-pub use request::Kind;
 pub use request::NoRequest;
 pub use request::Request;
 pub use split::words_of;

@@ -31,7 +31,7 @@ pub impl fmt::Display for Field as FieldDisplay {
         match self {
             Field::ObjectSize => write!(f, "the object size (word 1)"),
             Field::PartSize => write!(f, "the part size (word 2)"),
-            Field::Kind => write!(f, "all, from or tail (word 3)"),
+            Field::Kind => write!(f, "the word all, from or tail (word 3)"),
             Field::Start => write!(f, "the start (word 4)"),
             Field::End => write!(f, "the end (word 6)"),
             Field::Length => write!(f, "the length (word 4)"),
@@ -51,7 +51,7 @@ pub impl fmt::Display for NoRequest as NoRequestDisplay {
             ),
             NoRequest::BadPartSize(bad) => write!(f, "refused 1: {bad}"),
             NoRequest::UnknownRange => write!(f, "word 3 is none of all, from and tail"),
-            NoRequest::NoTo => write!(f, "word 5 is not to"),
+            NoRequest::NoTo => write!(f, "only the word to may follow the start (word 4)"),
             NoRequest::Surplus => write!(f, "words follow the end of the request"),
         }
     }

@@ -11,19 +11,8 @@ pub struct Request {
     pub range: GetRange,
 }
 
-// How a range is written.
-#[derive(Clone, Copy, Debug, PartialEq, Eq)]
-pub enum Kind {
-    // `all`
-    All,
-    // `from A to B` or `from A`
-    From,
-    // `tail N`
-    Tail,
-}
-
 // What a word of a request stands for.
-#[derive(Clone, Copy, Debug, PartialEq, Eq)]
+#[derive(Clone, Copy)]
 pub enum Field {
     ObjectSize,
     PartSize,

@@ -3,11 +3,21 @@ ghost use Rattle.std.specs.Options.{Cases as BySome};
 ghost use Rattle.std.specs.Results.{Cases as ByOk};
 ghost use Rattle.planning.specs.Words.{Number, NoNumber, Leads, NoLead, Begins, NoKind, Done, AfterTail, AfterTo, AfterStart, AfterFrom, RangeOf, AfterPart, AfterSize, RequestOf};
 use crate::request::Field;
-use crate::request::Kind;
 use crate::request::NoRequest;
 use crate::request::Request;
 use ranges::GetRange;
 use ranges::PartSize;
+
+// How a range is written.
+#[derive(Clone, Copy)]
+enum Kind {
+    // `all`
+    All,
+    // `from A to B` or `from A`
+    From,
+    // `tail N`
+    Tail,
+}
 
 // The number that a word writes in decimal.
 fn number(word: &str) -> Option<u64>
@@ -20,7 +30,10 @@ fn number(word: &str) -> Option<u64>
 }
 
 // The number that comes first, for `field`, and the words after it.
-fn leading<'a, 'b>(words: &'a [&'b str], field: Field) -> Result<(u64, &'a [&'b str]), NoRequest>
+fn leading_number<'a, 'b>(
+    words: &'a [&'b str],
+    field: Field,
+) -> Result<(u64, &'a [&'b str]), NoRequest>
     ensures { λ r. ⌜ ByOk r (λ x. Leads (now (words .entry)) (x .0) (now (x .1))) (λ e. NoLead field (now (words .entry)) e) ⌝ }
 {
     let [word, rest @ ..] = words else {
@@ -33,7 +46,7 @@ fn leading<'a, 'b>(words: &'a [&'b str], field: Field) -> Result<(u64, &'a [&'b 
 }
 
 // The kind of range, and the words after it.
-fn kind<'a, 'b>(words: &'a [&'b str]) -> Result<(Kind, &'a [&'b str]), NoRequest>
+fn leading_kind<'a, 'b>(words: &'a [&'b str]) -> Result<(Kind, &'a [&'b str]), NoRequest>
     ensures { λ r. ⌜ ByOk r (λ x. Begins (now (words .entry)) (x .0) (now (x .1))) (λ e. NoKind (now (words .entry)) e) ⌝ }
 {
     match words {
@@ -60,7 +73,7 @@ fn done(range: GetRange, rest: &[&str]) -> Result<GetRange, NoRequest>
 fn after_tail(words: &[&str]) -> Result<GetRange, NoRequest>
     ensures { λ r. ⌜ AfterTail (now (words .entry)) r ⌝ }
 {
-    match leading(words, Field::Length) {
+    match leading_number(words, Field::Length) {
         Err(fault) => Err(fault),
         Ok((length, rest)) => done(GetRange::Suffix(length), rest),
     }
@@ -70,7 +83,7 @@ fn after_tail(words: &[&str]) -> Result<GetRange, NoRequest>
 fn after_to(start: u64, words: &[&str]) -> Result<GetRange, NoRequest>
     ensures { λ r. ⌜ AfterTo start (now (words .entry)) r ⌝ }
 {
-    match leading(words, Field::End) {
+    match leading_number(words, Field::End) {
         Err(fault) => Err(fault),
         Ok((end, rest)) => done(GetRange::Bounded(start, end), rest),
     }
@@ -91,7 +104,7 @@ fn after_start(start: u64, words: &[&str]) -> Result<GetRange, NoRequest>
 fn after_from(words: &[&str]) -> Result<GetRange, NoRequest>
     ensures { λ r. ⌜ AfterFrom (now (words .entry)) r ⌝ }
 {
-    match leading(words, Field::Start) {
+    match leading_number(words, Field::Start) {
         Err(fault) => Err(fault),
         Ok((start, rest)) => after_start(start, rest),
     }
@@ -101,7 +114,7 @@ fn after_from(words: &[&str]) -> Result<GetRange, NoRequest>
 fn read_range(words: &[&str]) -> Result<GetRange, NoRequest>
     ensures { λ r. ⌜ RangeOf (now (words .entry)) r ⌝ }
 {
-    match kind(words) {
+    match leading_kind(words) {
         Err(fault) => Err(fault),
         Ok((Kind::All, rest)) => done(GetRange::All, rest),
         Ok((Kind::From, rest)) => after_from(rest),
@@ -131,7 +144,7 @@ fn after_part(object_size: u64, bytes: u64, words: &[&str]) -> Result<Request, N
 fn after_size(object_size: u64, words: &[&str]) -> Result<Request, NoRequest>
     ensures { λ r. ⌜ AfterSize «object_size» (now (words .entry)) r ⌝ }
 {
-    match leading(words, Field::PartSize) {
+    match leading_number(words, Field::PartSize) {
         Err(fault) => Err(fault),
         Ok((bytes, rest)) => after_part(object_size, bytes, rest),
     }
@@ -141,7 +154,7 @@ fn after_size(object_size: u64, words: &[&str]) -> Result<Request, NoRequest>
 pub fn read_request(words: &[&str]) -> Result<Request, NoRequest>
     ensures { λ r. ⌜ RequestOf (now (words .entry)) r ⌝ }
 {
-    match leading(words, Field::ObjectSize) {
+    match leading_number(words, Field::ObjectSize) {
         Err(fault) => Err(fault),
         Ok((object_size, rest)) => after_size(object_size, rest),
     }

@@ -1,7 +1,7 @@
 use borrow.Author.Needs.{needs}
-use Rattle.planning.specs.declared.request.Kind.the-variants.{All, From, Tail}
+use Rattle.planning.specs.declared.words.Kind.the-variants.{All, From, Tail}
 use Rattle.planning.proofs.Heads.{begins}
-use Rattle.planning.proofs.words.kind.Needs as need
+use Rattle.planning.proofs.words.leading_kind.Needs as need
 
 pub returns-in-all : need.returns-in-all
 returns-in-all c = begins (c .args .words .now) All _ (search needs) (c .in-all .is-all)
