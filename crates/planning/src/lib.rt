@@ -7,6 +7,7 @@
 // comes to when a head is held, and what goes down when none is; a `Cut` has each piece at its place in the
 // object; `words_of` answers the words of a line up to its comment, unless memory fails.
 mod cut;
+mod exact;
 mod messages;
 mod plan;
 mod request;
@@ -15,6 +16,7 @@ mod words;
 
 pub use cut::Cut;
 pub use cut::PlacedPiece;
+pub use exact::reading_is_exact;
 pub use messages::FieldDisplay;
 pub use messages::NoRequestDisplay;
 pub use messages::Written;
