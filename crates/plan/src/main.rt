@@ -13,6 +13,7 @@ use std::error::AnyError;
 use std::io;
 use std::io::BufRead;
 use std::io::BufReader;
+use std::str::from_utf8;
 use tally::Said;
 use tally::Tally;
 
@@ -39,13 +40,27 @@ fn answer_line(rt: &LibcRuntime, number: u64, line: &str) -> io::Result<Said> {
     }
 }
 
+// A line may be any bytes; one that is no text is no request.
+fn answer_bytes(rt: &LibcRuntime, number: u64, bytes: &[u8]) -> io::Result<Said> {
+    match from_utf8(bytes) {
+        Ok(line) => answer_line(rt, number, line.trim_end()),
+        Err(_) => {
+            println!(
+                rt,
+                "line {number}:\n    no request: the line is no text in UTF-8\n"
+            )?;
+            Ok(Said::NoRequest)
+        }
+    }
+}
+
 fn answer_all(rt: &LibcRuntime) -> io::Result<()> {
     let mut tally = Tally::new();
     let mut number: u64 = 0;
-    for line in BufReader::new(rt.stdin()).lines(rt.alloc()) {
-        let text = line?;
+    for line in BufReader::new(rt.stdin()).split(rt.alloc(), b'\n') {
+        let bytes = line?;
         number = number.saturating_add(1);
-        tally.count(answer_line(rt, number, text.as_str())?);
+        tally.count(answer_bytes(rt, number, bytes.as_slice())?);
     }
     tally.show(rt)
 }
