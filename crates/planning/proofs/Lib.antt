@@ -1,0 +1,4 @@
+pub mod Heads
+pub mod Lined
+pub mod Multiples
+pub mod Reading
