@@ -1,5 +1,6 @@
 pub mod Groups
 pub mod Marked
 pub mod Named
+pub mod Reading
 pub mod Sequence
 pub mod Whole

@@ -8,7 +8,7 @@ use Rattle.std.proofs.shelf.Lists.{set-split}
 use native.Mathlib.Numerals.{add-one}
 use Rattle.stored_head.specs.Forms.{label-form, Wrote, Stands}
 use Rattle.records.specs.declared.head.Head.{Head}
-use Rattle.stored_head.specs.Heads.{HeadData, data-of, attributes-form, rest-form, Stored, Saved}
+use Rattle.stored_head.specs.Heads.{HeadData, data-of, attributes-form, rest-form, Stored, Saved, Long}
 use Rattle.stored_head.specs.Numbers.{Number, Formed, NumberWritten}
 use Rattle.stored_head.proofs.Groups.{formed}
 use Rattle.stored_head.proofs.Sequence.{wrote-then}
@@ -77,3 +77,16 @@ pub stored-count : (h : Head) (s t : ℕ) → ((bs : List ℕ) → Number bs (h 
     → length bs ≡ s + t + (length (label-form (data-of h .e-tag)) + length (label-form (data-of h .version))) + 1 + length (attributes-form (data-of h .attributes))
 stored-count h s t x y bs f =
     omega (arith, stored-long (data-of h) bs f, rest-long (data-of h), x (f .size .bytes) (f .size .form), y (f .time .bytes) (f .time .form))
+
+pub stored-some : (h : Head) (s t n : ℕ) → ((bs : List ℕ) → Number bs (h .size) → length bs ≡ s) → ((bs : List ℕ) → Number bs (h .time) → length bs ≡ t)
+    → n ≡ s + t + (length (label-form (data-of h .e-tag)) + length (label-form (data-of h .version))) + 1 + length (attributes-form (data-of h .attributes)) → Long (data-of h) n
+stored-some h s t n x y e =
+    let size : Formed (h .size) = formed 5 (h .size) (omega arith) in
+    let time : Formed (h .time) = formed 5 (h .time) (omega arith) in
+    let bytes : List ℕ = size .bytes ++ (time .bytes ++ rest-form (data-of h)) in
+    let form : Stored (data-of h) bytes = record { size = size; time = time; joined = refl } in
+    record {
+      bytes = bytes;
+      form = form;
+      count = stored-count h s t x y bytes form ∙ sym e;
+      only = λ bs f. stored-count h s t x y bs f ∙ sym e }

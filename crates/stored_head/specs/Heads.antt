@@ -8,7 +8,11 @@ use Rattle.std.specs.declared.option.Option.the-variants.{None, Some}
 use Rattle.records.specs.declared.attribute.AttributeEntry.{AttributeEntry}
 use Rattle.records.specs.declared.attributes.Attributes.{Attributes}
 use Rattle.records.specs.declared.head.Head.{Head}
-use Rattle.records.specs.Limits.{KeyLong, SizeWithin, TimeWithin}
+use Rattle.std.specs.declared.result.Result.{Result}
+use Rattle.std.specs.declared.result.Result.the-variants.{Ok, Err}
+use Rattle.records.specs.declared.refused.BufferTooShort.{BufferTooShort}
+use Rattle.records.specs.Limits.{KeyLong, SizeWithin, TimeWithin, of-buffer, buffer-too-short}
+use Rattle.stored_head.specs.declared.local_cache_head.LocalCacheHead.{LocalCacheHead}
 use Rattle.records.specs.Names.{name-of}
 use Rattle.records.specs.Padded.{held, labelled}
 use Rattle.stored_head.specs.Forms.{sized, label-form, LabelWithin, Stands}
@@ -89,3 +93,24 @@ pub record Saved (out : List ℕ) (d : HeadData) (n : ℕ) (after : List ℕ) : 
   pub form : Stored d bytes
   pub count : n ≡ length bytes
   pub joined : after ≡ bytes ++ drop n out
+
+-- d's stored form has n bytes
+pub record Long (d : HeadData) (n : ℕ) : Type 0 where
+  pub bytes : List ℕ
+  pub form : Stored d bytes
+  pub count : length bytes ≡ n
+  pub only : (bs : List ℕ) → Stored d bs → length bs ≡ n
+
+-- saved where there is room, else refused with the room that it has and the room that it needs, and out as it was
+abbrev pub SaveAnswer : (out : List ℕ) (d : HeadData) → Result ℕ BufferTooShort → (after : List ℕ) → Type 0
+SaveAnswer out d (Ok n) after = (n ≤ length out) × Saved out d n after
+SaveAnswer out d (Err e) after = (n : ℕ) × Long d n × (length out < n) × (of-buffer e ≡ buffer-too-short (length out) n) × (after ≡ out)
+
+-- no head within its limits is stored as these bytes
+pub record NoHead (bytes : List ℕ) : Type 0 where
+  pub never : (d : HeadData) → Within d → Stored d bytes → ⊥
+
+-- the head that is stored as these bytes, where one is
+abbrev pub NamesRead : (bytes : List ℕ) → Option LocalCacheHead → Type 0
+NamesRead bytes None = NoHead bytes
+NamesRead bytes (Some h) = Within (data-of (h .names)) × Stored (data-of (h .names)) bytes

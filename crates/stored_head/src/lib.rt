@@ -6,4 +6,10 @@
 mod attributes;
 mod bytes;
 mod head;
+mod local_cache_head;
 mod numbers;
+mod read;
+
+pub use head::save;
+pub use head::stored_len;
+pub use local_cache_head::LocalCacheHead;
