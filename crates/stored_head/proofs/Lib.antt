@@ -1,5 +1,6 @@
 pub mod Groups
 pub mod Marked
+pub mod Merging
 pub mod Named
 pub mod Reading
 pub mod Sequence

@@ -46,9 +46,9 @@ module _ (bytes : List ℕ) (d : HeadData) (w : Within d) (s : Stored d bytes) w
   module _ (n1 a1 : ℕ) (x1 : StandsAt bytes 0 n1 a1) where
     pub size-is : (d .size ≡ n1) × (s .time .bytes ++ rest-form d ≡ drop a1 bytes)
     size-is =
-      let same = number-free (s .size .bytes) (x1 .formed .bytes) (d .size) n1 (s .time .bytes ++ rest-form d) (drop a1 bytes) (s .size .form) (x1 .formed .form)
-          (sym (s .joined) ∙ x1 .joined) in
-      (same .0, same .2)
+        let same = number-free (s .size .bytes) (x1 .formed .bytes) (d .size) n1 (s .time .bytes ++ rest-form d) (drop a1 bytes) (s .size .form) (x1 .formed .form)
+        (sym (s .joined) ∙ x1 .joined) in
+        (same .0, same .2)
 
     pub time-not : StandsNot bytes a1 5 → ⊥
     time-not not = not .never (d .time) (s .time .bytes) (rest-form d) (omega (arith, w .time)) (s .time .form) (sym (size-is .1))
@@ -56,8 +56,8 @@ module _ (bytes : List ℕ) (d : HeadData) (w : Within d) (s : Stored d bytes) w
     module _ (n2 a2 : ℕ) (x2 : StandsAt bytes a1 n2 a2) where
       pub time-is : (d .time ≡ n2) × (rest-form d ≡ drop a2 bytes)
       time-is =
-        let same = number-free (s .time .bytes) (x2 .formed .bytes) (d .time) n2 (rest-form d) (drop a2 bytes) (s .time .form) (x2 .formed .form) (size-is .1 ∙ x2 .joined) in
-        (same .0, same .2)
+          let same = number-free (s .time .bytes) (x2 .formed .bytes) (d .time) n2 (rest-form d) (drop a2 bytes) (s .time .form) (x2 .formed .form) (size-is .1 ∙ x2 .joined) in
+          (same .0, same .2)
 
       pub tag-not : NoLabel bytes a2 → ⊥
       tag-not not = not .never (d .e-tag) (label-form (d .version) ++ tail-form d) (w .e-tag) (sym (time-is .1))
@@ -75,17 +75,17 @@ module _ (bytes : List ℕ) (d : HeadData) (w : Within d) (s : Stored d bytes) w
 
           pub count-not-past : length bytes ≤ a4 → ⊥
           count-not-past h =
-            let none : drop a4 bytes ≡ [] = drop-all a4 bytes h in
-            let there : tail-form d ≡ drop a4 bytes = version-is .1 in
-            let z : _≡_ {A = ℕ} 0 1 = cc in
-            omega arith
+              let none : drop a4 bytes ≡ [] = drop-all a4 bytes h in
+              let there : tail-form d ≡ drop a4 bytes = version-is .1 in
+              let z : _≡_ {A = ℕ} 0 1 = cc in
+              omega arith
 
           module _ (h : a4 < length bytes) where
             pub count-is : (length (d .attributes) ≡ getD bytes a4 0) × (attributes-form (d .attributes) ≡ drop (a4 + 1) bytes)
             count-is =
-              let first : drop a4 bytes ≡ getD bytes a4 0 ∷ drop (a4 + 1) bytes = drop-more bytes a4 0 h in
-              let there : tail-form d ≡ drop a4 bytes = version-is .1 in
-              (cc, cc)
+                let first : drop a4 bytes ≡ getD bytes a4 0 ∷ drop (a4 + 1) bytes = drop-more bytes a4 0 h in
+                let there : tail-form d ≡ drop a4 bytes = version-is .1 in
+                (cc, cc)
 
             pub count-not : 8 < getD bytes a4 0 → ⊥
             count-not many = omega (arith, count-is .0, w .few)
@@ -95,9 +95,9 @@ module _ (bytes : List ℕ) (d : HeadData) (w : Within d) (s : Stored d bytes) w
 
             pub end-is : (added : List Named) (next : ℕ) → length added ≡ getD bytes a4 0 → Stands bytes (a4 + 1) (attributes-form added) next → next ≡ length bytes
             end-is added next count x5 =
-              let same = attributes-free (d .attributes) added [] (drop next bytes) (omega (arith, count-is .0, count))
-                  (append-nil (attributes-form (d .attributes)) ∙ count-is .1 ∙ x5 .joined) in
-              omega (arith, ap length (same .1), length-drop next bytes, x5 .within)
+                let same = attributes-free (d .attributes) added [] (drop next bytes) (omega (arith, count-is .0, count))
+                (append-nil (attributes-form (d .attributes)) ∙ count-is .1 ∙ x5 .joined) in
+                omega (arith, ap length (same .1), length-drop next bytes, x5 .within)
 
 -- all that stands, one after the other, is the form
 pub stored-made : (bytes : List ℕ) (d : HeadData) (a1 a2 a3 a4 next : ℕ) → StandsAt bytes 0 (d .size) a1 → StandsAt bytes a1 (d .time) a2 → Stands bytes a2 (label-form (d .e-tag)) a3
@@ -112,7 +112,8 @@ stored-made bytes d a1 a2 a3 a4 next x1 x2 x3 x4 h count x5 end =
     record {
       size = x1 .formed;
       time = x2 .formed;
-      joined = x1 .joined ∙ ap (λ r. x1 .formed .bytes ++ r) (x2 .joined ∙ ap (λ r. x2 .formed .bytes ++ r) labels) }
+      joined = x1 .joined ∙ ap (λ r. x1 .formed .bytes ++ r) (x2 .joined ∙ ap (λ r. x2 .formed .bytes ++ r) labels);
+    }
 
 -- what a head tells, by its parts
 abbrev pub told : (size time : ℕ) (t v : Label) (a : Attributes) → HeadData

@@ -1,10 +1,12 @@
 -- The stored form of a head.
 use Prim.Native.Nat.{ℕ, _+_, _≤_, _<_}
 use mathlib.Core.Path.{_≡_}
+use mathlib.Core.Bool.{Bool, true, false, cond, _||_}
 use mathlib.Core.List.{List, [], _∷_, _++_, map}
 use lib.ListN.{length, take, drop}
 use Rattle.std.specs.declared.option.Option.{Option}
 use Rattle.std.specs.declared.option.Option.the-variants.{None, Some}
+use Rattle.std.specs.shelf.Text.{sameBytes}
 use Rattle.records.specs.declared.attribute.AttributeEntry.{AttributeEntry}
 use Rattle.records.specs.declared.attributes.Attributes.{Attributes}
 use Rattle.records.specs.declared.head.Head.{Head}
@@ -62,11 +64,12 @@ pub record HeadData : Type 0 where
 
 abbrev pub data-of : Head → HeadData
 data-of h = record {
-    size = h .size;
-    time = h .time;
-    e-tag = labelled (h .«e_tag» .len) (h .«e_tag» .bytes);
-    version = labelled (h .version .len) (h .version .bytes);
-    attributes = pairs (take (h .attributes .len) (h .attributes .entries)) }
+  size = h .size;
+  time = h .time;
+  e-tag = labelled (h .«e_tag» .len) (h .«e_tag» .bytes);
+  version = labelled (h .version .len) (h .version .bytes);
+  attributes = pairs (take (h .attributes .len) (h .attributes .entries));
+}
 
 -- the limits of a head
 pub record Within (d : HeadData) : Type 0 where
@@ -114,3 +117,13 @@ pub record NoHead (bytes : List ℕ) : Type 0 where
 abbrev pub NamesRead : (bytes : List ℕ) → Option LocalCacheHead → Type 0
 NamesRead bytes None = NoHead bytes
 NamesRead bytes (Some h) = Within (data-of (h .names)) × Stored (data-of (h .names)) bytes
+
+-- whether one of the attributes has this name
+abbrev pub name-in : List ℕ → List Named → Bool
+name-in k [] = false
+name-in k (a ∷ more) = sameBytes k (a .0) || name-in k more
+
+-- of equal names the later stays
+abbrev pub merged : List Named → List Named
+merged [] = []
+merged (a ∷ more) = cond (name-in (a .0) more) (merged more) (a ∷ merged more)

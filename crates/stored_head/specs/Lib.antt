@@ -1,3 +1,4 @@
 pub mod Forms
 pub mod Heads
+pub mod Loads
 pub mod Numbers

@@ -6,10 +6,12 @@
 mod attributes;
 mod bytes;
 mod head;
+mod loading;
 mod local_cache_head;
 mod numbers;
 mod read;
 
 pub use head::save;
 pub use head::stored_len;
+pub use loading::load;
 pub use local_cache_head::LocalCacheHead;

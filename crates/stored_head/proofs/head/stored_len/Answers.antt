@@ -6,7 +6,6 @@ use Rattle.stored_head.specs.Numbers.{Number}
 use Rattle.stored_head.proofs.Whole.{stored-count, stored-some}
 use Rattle.stored_head.proofs.head.stored_len.Needs as need
 
-
 pub returns : need.returns
 returns c =
     let h = c .args .head .now in
@@ -16,4 +15,5 @@ returns c =
           (λ a x. c .number-len .ensures .long a (subst (Number a) (sym (c .size .ensures)) x))
           (λ b y. c .number-len-2 .ensures .long b (subst (Number b) (sym (c .time .ensures)) y))
           (omega (arith, c .label-len .ensures .value, c .label-len-2 .ensures .value, c .attributes-len .ensures .value));
-      bound = omega (arith, c .number-len .ensures .bound, c .number-len-2 .ensures .bound, c .label-len .ensures .bound, c .label-len-2 .ensures .bound, c .attributes-len .ensures .bound) }
+      bound = omega (arith, c .number-len .ensures .bound, c .number-len-2 .ensures .bound, c .label-len .ensures .bound, c .label-len-2 .ensures .bound, c .attributes-len .ensures .bound);
+    }

@@ -13,59 +13,75 @@ pub returns-in-rest : need.returns-in-rest
 returns-in-rest c = record { never = λ d w s. size-not (c .args .bytes .now) d w s (c .in-rest .ensures tt) }
 
 pub returns-in-rest-read-number : need.returns-in-rest-read-number
-returns-in-rest-read-number c = record { never = λ d w s.
-    time-not (c .args .bytes .now) d w s (c .in-Some .size) (c .in-Some .after-size) (c .in-Some .ensures tt .1) (c .in-rest-read-number .ensures tt) }
+returns-in-rest-read-number c = record {
+  never = λ d w s.
+      time-not (c .args .bytes .now) d w s (c .in-Some .size) (c .in-Some .after-size) (c .in-Some .ensures tt .1) (c .in-rest-read-number .ensures tt);
+}
 
 pub returns-in-rest-read-label : need.returns-in-rest-read-label
-returns-in-rest-read-label c = record { never = λ d w s.
-    tag-not (c .args .bytes .now) d w s (c .in-Some .size) (c .in-Some .after-size) (c .in-Some .ensures tt .1)
-    (c .in-Some-read-number .time) (c .in-Some-read-number .after-time) (c .in-Some-read-number .ensures tt .1) (c .in-rest-read-label .ensures tt) }
+returns-in-rest-read-label c = record {
+  never = λ d w s.
+      tag-not (c .args .bytes .now) d w s (c .in-Some .size) (c .in-Some .after-size) (c .in-Some .ensures tt .1)
+      (c .in-Some-read-number .time) (c .in-Some-read-number .after-time) (c .in-Some-read-number .ensures tt .1) (c .in-rest-read-label .ensures tt);
+}
 
 pub returns-in-rest-read-label-2 : need.returns-in-rest-read-label-2
-returns-in-rest-read-label-2 c = record { never = λ d w s.
-    version-not (c .args .bytes .now) d w s (c .in-Some .size) (c .in-Some .after-size) (c .in-Some .ensures tt .1)
-    (c .in-Some-read-number .time) (c .in-Some-read-number .after-time) (c .in-Some-read-number .ensures tt .1)
-    _ (c .in-Some-read-label .e-tag .1) (c .in-Some-read-label .ensures tt .1) (c .in-rest-read-label-2 .ensures tt) }
+returns-in-rest-read-label-2 c = record {
+  never = λ d w s.
+      version-not (c .args .bytes .now) d w s (c .in-Some .size) (c .in-Some .after-size) (c .in-Some .ensures tt .1)
+      (c .in-Some-read-number .time) (c .in-Some-read-number .after-time) (c .in-Some-read-number .ensures tt .1)
+      _ (c .in-Some-read-label .e-tag .1) (c .in-Some-read-label .ensures tt .1) (c .in-rest-read-label-2 .ensures tt);
+}
 
 pub returns-then-at-bytes : need.returns-then-at-bytes
-returns-then-at-bytes c = record { never = λ d w s.
-    count-not-past (c .args .bytes .now) d w s (c .in-Some .size) (c .in-Some .after-size) (c .in-Some .ensures tt .1)
-    (c .in-Some-read-number .time) (c .in-Some-read-number .after-time) (c .in-Some-read-number .ensures tt .1)
-    _ (c .in-Some-read-label .e-tag .1) (c .in-Some-read-label .ensures tt .1) _ (c .in-Some-read-label-2 .version .1) (c .in-Some-read-label-2 .ensures tt .1)
-    (c .if-at-bytes .taken) }
+returns-then-at-bytes c = record {
+  never = λ d w s.
+      count-not-past (c .args .bytes .now) d w s (c .in-Some .size) (c .in-Some .after-size) (c .in-Some .ensures tt .1)
+      (c .in-Some-read-number .time) (c .in-Some-read-number .after-time) (c .in-Some-read-number .ensures tt .1)
+      _ (c .in-Some-read-label .e-tag .1) (c .in-Some-read-label .ensures tt .1) _ (c .in-Some-read-label-2 .version .1) (c .in-Some-read-label-2 .ensures tt .1)
+      (c .if-at-bytes .taken);
+}
 
 pub returns-then-count-gt8 : need.returns-then-count-gt8
-returns-then-count-gt8 c = record { never = λ d w s.
-    count-not (c .args .bytes .now) d w s (c .in-Some .size) (c .in-Some .after-size) (c .in-Some .ensures tt .1)
-    (c .in-Some-read-number .time) (c .in-Some-read-number .after-time) (c .in-Some-read-number .ensures tt .1)
-    _ (c .in-Some-read-label .e-tag .1) (c .in-Some-read-label .ensures tt .1) _ (c .in-Some-read-label-2 .version .1) (c .in-Some-read-label-2 .ensures tt .1)
-    (c .if-at-bytes .left) (c .if-count-gt8 .taken) }
+returns-then-count-gt8 c = record {
+  never = λ d w s.
+      count-not (c .args .bytes .now) d w s (c .in-Some .size) (c .in-Some .after-size) (c .in-Some .ensures tt .1)
+      (c .in-Some-read-number .time) (c .in-Some-read-number .after-time) (c .in-Some-read-number .ensures tt .1)
+      _ (c .in-Some-read-label .e-tag .1) (c .in-Some-read-label .ensures tt .1) _ (c .in-Some-read-label-2 .version .1) (c .in-Some-read-label-2 .ensures tt .1)
+      (c .if-at-bytes .left) (c .if-count-gt8 .taken);
+}
 
 pub read-attributes-requires : need.read-attributes-requires
 read-attributes-requires c κs = record { within = omega arith; few = omega (arith, c .new .ensures .0) }
 
 pub returns-in-rest-read-attributes : need.returns-in-rest-read-attributes
-returns-in-rest-read-attributes c = record { never = λ d w s.
-    attributes-not (c .args .bytes .now) d w s (c .in-Some .size) (c .in-Some .after-size) (c .in-Some .ensures tt .1)
-    (c .in-Some-read-number .time) (c .in-Some-read-number .after-time) (c .in-Some-read-number .ensures tt .1)
-    _ (c .in-Some-read-label .e-tag .1) (c .in-Some-read-label .ensures tt .1) _ (c .in-Some-read-label-2 .version .1) (c .in-Some-read-label-2 .ensures tt .1)
-    (c .if-at-bytes .left) (c .in-rest-read-attributes .ensures tt) }
+returns-in-rest-read-attributes c = record {
+  never = λ d w s.
+      attributes-not (c .args .bytes .now) d w s (c .in-Some .size) (c .in-Some .after-size) (c .in-Some .ensures tt .1)
+      (c .in-Some-read-number .time) (c .in-Some-read-number .after-time) (c .in-Some-read-number .ensures tt .1)
+      _ (c .in-Some-read-label .e-tag .1) (c .in-Some-read-label .ensures tt .1) _ (c .in-Some-read-label-2 .version .1) (c .in-Some-read-label-2 .ensures tt .1)
+      (c .if-at-bytes .left) (c .in-rest-read-attributes .ensures tt);
+}
 
 pub returns-then-attributes-bytes : need.returns-then-attributes-bytes
-returns-then-attributes-bytes c = record { never = λ d w s.
-    c .if-attributes-bytes .taken
-    (end-is (c .args .bytes .now) d w s (c .in-Some .size) (c .in-Some .after-size) (c .in-Some .ensures tt .1)
+returns-then-attributes-bytes c = record {
+  never = λ d w s.
+      c .if-attributes-bytes .taken
+      (end-is (c .args .bytes .now) d w s (c .in-Some .size) (c .in-Some .after-size) (c .in-Some .ensures tt .1)
       (c .in-Some-read-number .time) (c .in-Some-read-number .after-time) (c .in-Some-read-number .ensures tt .1)
       _ (c .in-Some-read-label .e-tag .1) (c .in-Some-read-label .ensures tt .1) _ (c .in-Some-read-label-2 .version .1) (c .in-Some-read-label-2 .ensures tt .1)
       (c .if-at-bytes .left) (c .in-Some-read-attributes .ensures tt .added) (c .in-Some-read-attributes .attributes .1)
-      (c .in-Some-read-attributes .ensures tt .count) (c .in-Some-read-attributes .ensures tt .stand)) }
+      (c .in-Some-read-attributes .ensures tt .count) (c .in-Some-read-attributes .ensures tt .stand));
+}
 
 pub returns-in-rest-new : need.returns-in-rest-new
-returns-in-rest-new c = record { never = λ d w s.
-    let size = size-is (c .args .bytes .now) d w s (c .in-Some .size) (c .in-Some .after-size) (c .in-Some .ensures tt .1) .0 in
-    let time = time-is (c .args .bytes .now) d w s (c .in-Some .size) (c .in-Some .after-size) (c .in-Some .ensures tt .1)
-        (c .in-Some-read-number .time) (c .in-Some-read-number .after-time) (c .in-Some-read-number .ensures tt .1) .0 in
-    ⊎-elim (λ large. omega (arith, large .0, w .size)) (λ late. omega (arith, late .1, w .time)) (c .in-rest-new .ensures tt) }
+returns-in-rest-new c = record {
+  never = λ d w s.
+      let size = size-is (c .args .bytes .now) d w s (c .in-Some .size) (c .in-Some .after-size) (c .in-Some .ensures tt .1) .0 in
+      let time = time-is (c .args .bytes .now) d w s (c .in-Some .size) (c .in-Some .after-size) (c .in-Some .ensures tt .1)
+      (c .in-Some-read-number .time) (c .in-Some-read-number .after-time) (c .in-Some-read-number .ensures tt .1) .0 in
+      ⊎-elim (λ large. omega (arith, large .0, w .size)) (λ late. omega (arith, late .1, w .time)) (c .in-rest-new .ensures tt);
+}
 
 pub returns : need.returns
 returns c =
@@ -78,16 +94,17 @@ returns c =
     let added : pairs entries ≡ found .added = found .joined ∙ ap (λ es. pairs es ++ found .added) (c .new .ensures .1) in
     let count : length (d .attributes) ≡ getD bytes (c .in-Some-read-label-2 .version .1) 0 = ap length added ∙ found .count in
     let within : Within d = record {
-          size = names .0;
-          time = names .1;
-          e-tag = c .in-Some-read-label .ensures tt .0;
-          version = c .in-Some-read-label-2 .ensures tt .0;
-          few = omega (arith, c .if-count-gt8 .left);
-          attributes = subst AttributesWithin (sym added) (found .within) } in
+      size = names .0;
+      time = names .1;
+      e-tag = c .in-Some-read-label .ensures tt .0;
+      version = c .in-Some-read-label-2 .ensures tt .0;
+      few = omega (arith, c .if-count-gt8 .left);
+      attributes = subst AttributesWithin (sym added) (found .within);
+    } in
     let stored : Stored d bytes =
-        stored-made bytes d (c .in-Some .after-size) (c .in-Some-read-number .after-time) (c .in-Some-read-label .e-tag .1) (c .in-Some-read-label-2 .version .1)
-        (c .in-Some-read-attributes .attributes .1) (c .in-Some .ensures tt .1) (c .in-Some-read-number .ensures tt .1) (c .in-Some-read-label .ensures tt .1)
-        (c .in-Some-read-label-2 .ensures tt .1) (c .if-at-bytes .left) (sym count)
-        (subst (λ named. Stands bytes (c .in-Some-read-label-2 .version .1 + 1) (attributes-form named) (c .in-Some-read-attributes .attributes .1)) (sym added) (found .stand))
-        (c .if-attributes-bytes .left) in
+    stored-made bytes d (c .in-Some .after-size) (c .in-Some-read-number .after-time) (c .in-Some-read-label .e-tag .1) (c .in-Some-read-label-2 .version .1)
+    (c .in-Some-read-attributes .attributes .1) (c .in-Some .ensures tt .1) (c .in-Some-read-number .ensures tt .1) (c .in-Some-read-label .ensures tt .1)
+    (c .in-Some-read-label-2 .ensures tt .1) (c .if-at-bytes .left) (sym count)
+    (subst (λ named. Stands bytes (c .in-Some-read-label-2 .version .1 + 1) (attributes-form named) (c .in-Some-read-attributes .attributes .1)) (sym added) (found .stand))
+    (c .if-attributes-bytes .left) in
     subst (λ x. Within x × Stored x bytes) (sym same) (within, stored)
