@@ -6,6 +6,7 @@
 mod attributes;
 mod bytes;
 mod head;
+mod laws;
 mod loading;
 mod local_cache_head;
 mod numbers;
@@ -13,5 +14,6 @@ mod read;
 
 pub use head::save;
 pub use head::stored_len;
+pub use laws::stored_forms_are_exact;
 pub use loading::load;
 pub use local_cache_head::LocalCacheHead;
