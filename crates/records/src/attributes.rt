@@ -21,7 +21,7 @@ pub struct Attributes {
 
 impl Attributes {
     pub fn new() -> Attributes
-        ensures { λ r. ⌜ take (r .len) (r .entries) ≡ [] ⌝ }
+        ensures { λ r. ⌜ (r .len ≡ 0) × (take (r .len) (r .entries) ≡ []) ⌝ }
     {
         let blank = AttributeEntry {
             attribute: Attribute::ContentType,

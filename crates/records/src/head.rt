@@ -57,4 +57,17 @@ impl Head {
     {
         self.time
     }
+
+    // The same head with other attributes.
+    pub fn with_attributes(&self, attributes: Attributes) -> Head
+        ensures { λ r. ⌜ (r .size ≡ now (self .entry) .size) × (r .time ≡ now (self .entry) .time) × (r .«e_tag» ≡ now (self .entry) .«e_tag») × (r .version ≡ now (self .entry) .version) × (r .attributes ≡ attributes) ⌝ }
+    {
+        Head {
+            size: self.size,
+            time: self.time,
+            e_tag: self.e_tag,
+            version: self.version,
+            attributes,
+        }
+    }
 }

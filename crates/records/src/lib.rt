@@ -25,6 +25,7 @@ pub use label::Label;
 pub use messages::BufferTooShortDisplay;
 pub use messages::InvalidHeadDisplay;
 pub use messages::InvalidPathDisplay;
+pub use names::same_bytes;
 pub use path::Path;
 pub use refused::BufferTooShort;
 pub use refused::InvalidHead;

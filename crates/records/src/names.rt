@@ -1,6 +1,7 @@
 // The names by which attributes are stored.
 ghost use mathlib.Core.Path.{_≡_};
 ghost use Rattle.std.specs.Orderings.{Decides};
+ghost use Rattle.std.specs.shelf.Text.{sameBytes};
 ghost use lib.ListN.{length};
 ghost use Rattle.records.specs.Limits.{KeyLong};
 ghost use Rattle.records.specs.Names.{name-of, Named};
@@ -28,19 +29,19 @@ impl Attribute {
         ensures { λ r. ⌜ Named key r ⌝ }
     {
         let name = key.as_slice();
-        if same(name, Attribute::CacheControl.name()) {
+        if same_bytes(name, Attribute::CacheControl.name()) {
             return Attribute::CacheControl;
         }
-        if same(name, Attribute::ContentDisposition.name()) {
+        if same_bytes(name, Attribute::ContentDisposition.name()) {
             return Attribute::ContentDisposition;
         }
-        if same(name, Attribute::ContentEncoding.name()) {
+        if same_bytes(name, Attribute::ContentEncoding.name()) {
             return Attribute::ContentEncoding;
         }
-        if same(name, Attribute::ContentLanguage.name()) {
+        if same_bytes(name, Attribute::ContentLanguage.name()) {
             return Attribute::ContentLanguage;
         }
-        if same(name, Attribute::ContentType.name()) {
+        if same_bytes(name, Attribute::ContentType.name()) {
             return Attribute::ContentType;
         }
         Attribute::Metadata(key)
@@ -48,8 +49,9 @@ impl Attribute {
 }
 
 // Byte for byte.
-fn same(a: &[u8], b: &[u8]) -> bool
-    ensures { λ r. ⌜ Decides r (now (a .entry) ≡ now (b .entry)) ⌝ }
+pub fn same_bytes(a: &[u8], b: &[u8]) -> bool
+    ensures decides { λ r. ⌜ Decides r (now (a .entry) ≡ now (b .entry)) ⌝ }
+    ensures value { λ r. ⌜ r ≡ sameBytes (now (a .entry)) (now (b .entry)) ⌝ }
 {
     a == b
 }

@@ -84,11 +84,13 @@ below-fits n more h b = let top : 128 ^ (more + 1) ≤ 128 ^ 9 = pow-le-pow-righ
 pub formed : (more n : ℕ) → n < 128 ^ (more + 1) → Formed n
 formed zero n b = record { bytes = n ∷ []; form = single n (omega arith) }
 formed (suc more) n b =
-    elim (decLt n 128) [ yes h ↦ record { bytes = n ∷ []; form = single n h }
-    | no h ↦
-      let same : 128 ^ (suc more - 1 + 1) ≡ 128 ^ (more + 1) = ap (λ k. 128 ^ k) (omega arith) in
-      let above : Formed (n / 128) = formed more (n / 128) (omega (arith, below-less n (suc more) (omega (arith, h)) b)) in
-      record { bytes = (128 + n % 128) ∷ above .bytes; form = number-make (above .bytes) n (omega (arith, h)) (above .form) } ]
+    elim (decLt n 128) [
+      | yes h ↦ record { bytes = n ∷ []; form = single n h }
+      | no h ↦
+          let same : 128 ^ (suc more - 1 + 1) ≡ 128 ^ (more + 1) = ap (λ k. 128 ^ k) (omega arith) in
+          let above : Formed (n / 128) = formed more (n / 128) (omega (arith, below-less n (suc more) (omega (arith, h)) b)) in
+          record { bytes = (128 + n % 128) ∷ above .bytes; form = number-make (above .bytes) n (omega (arith, h)) (above .form) }
+    ]
 
 -- what a reader meets at `at`
 module _ (bytes : List ℕ) (at more : ℕ) where
@@ -99,60 +101,70 @@ module _ (bytes : List ℕ) (at more : ℕ) where
   stands-not-past h = record { never = λ n bs rest b form e. number-some bs n rest form (sym (drop-all at bytes h) ∙ e) }
 
   pub stands-single : at < length bytes → here < 128 → (here < 128 ^ (more + 1)) × StandsAt bytes at here (at + 1)
-  stands-single h small =
-    ( omega (arith, power-least more)
-    , record { formed = record { bytes = here ∷ []; form = single here small }; within = omega arith; place = refl; joined = drop-more bytes at 0 h } )
+  stands-single h small = (
+    omega (arith, power-least more),
+    record { formed = record { bytes = here ∷ []; form = single here small }; within = omega arith; place = refl; joined = drop-more bytes at 0 h },
+  )
 
   -- a form that begins with a byte of 128 or more goes on
   pub stands-further : at < length bytes → 128 ≤ here → (n : ℕ) (bs rest : List ℕ) → Number bs n → drop at bytes ≡ bs ++ rest
       → (high : ℕ) × (above : List ℕ) × (n ≡ here - 128 + 128 * high) × (0 < high) × Number above high × (drop (at + 1) bytes ≡ above ++ rest)
   stands-further h large n bs rest (single m b) e =
-    let first = drop-more bytes at 0 h in
-    let same : here ≡ m = cc in
-    absurd (omega arith)
+      let first = drop-more bytes at 0 h in
+      let same : here ≡ m = cc in
+      absurd (omega arith)
   stands-further h large n bs rest (further low high above l p r) e =
-    let first = drop-more bytes at 0 h in
-    let same : here ≡ 128 + low = cc in
-    (high, above, omega arith, p, r, cc)
+      let first = drop-more bytes at 0 h in
+      let same : here ≡ 128 + low = cc in
+      (high, above, omega arith, p, r, cc)
 
   pub stands-not-more : at < length bytes → 128 ≤ here → more ≡ 0 → StandsNot bytes at more
-  stands-not-more h large z = record { never = λ n bs rest b form e.
-    let on = stands-further h large n bs rest form e in
-    let one : 128 ^ (more + 1) ≡ 128 = ap (λ k. 128 ^ (k + 1)) z in
-    omega (arith, on .2, on .3) }
+  stands-not-more h large z = record {
+    never = λ n bs rest b form e.
+        let on = stands-further h large n bs rest form e in
+        let one : 128 ^ (more + 1) ≡ 128 = ap (λ k. 128 ^ (k + 1)) z in
+        omega (arith, on .2, on .3);
+  }
 
   pub stands-not-rest : at < length bytes → 128 ≤ here → 0 < more → StandsNot bytes (at + 1) (more - 1) → StandsNot bytes at more
-  stands-not-rest h large p not = record { never = λ n bs rest b form e.
-    let on = stands-further h large n bs rest form e in
-    not .never (on .0) (on .1) rest (omega (arith, on .2, power-more more p)) (on .4) (on .5) }
+  stands-not-rest h large p not = record {
+    never = λ n bs rest b form e.
+        let on = stands-further h large n bs rest form e in
+        not .never (on .0) (on .1) rest (omega (arith, on .2, power-more more p)) (on .4) (on .5);
+  }
 
   pub stands-not-long : at < length bytes → 128 ≤ here → (next : ℕ) → StandsAt bytes (at + 1) 0 next → StandsNot bytes at more
-  stands-not-long h large next zero-there = record { never = λ n bs rest b form e.
-    let on = stands-further h large n bs rest form e in
-    let same = number-free (zero-there .formed .bytes) (on .1) 0 (on .0) (drop next bytes) rest (zero-there .formed .form) (on .4)
+  stands-not-long h large next zero-there = record {
+    never = λ n bs rest b form e.
+        let on = stands-further h large n bs rest form e in
+        let same = number-free (zero-there .formed .bytes) (on .1) 0 (on .0) (drop next bytes) rest (zero-there .formed .form) (on .4)
         (sym (zero-there .joined) ∙ on .5) in
-    omega (arith, on .3, same .0) }
+        omega (arith, on .3, same .0);
+  }
 
   pub stands-more : at < length bytes → 128 ≤ here → here < 256 → 0 < more → (high next : ℕ) → 0 < high → high < 128 ^ ((more - 1) + 1) → StandsAt bytes (at + 1) high next
       → (here - 128 + 128 * high < 128 ^ (more + 1)) × StandsAt bytes at (here - 128 + 128 * high) next
   stands-more h large small p high next q b stands =
-    let first : drop at bytes ≡ here ∷ drop (at + 1) bytes = drop-more bytes at 0 h in
-    let byte : here ≡ 128 + (here - 128) = omega arith in
-    let joins : drop at bytes ≡ (128 + (here - 128)) ∷ (stands .formed .bytes ++ drop next bytes) =
-        first ∙ ap (λ k. here ∷ k) (stands .joined) ∙ ap (λ k. k ∷ (stands .formed .bytes ++ drop next bytes)) byte in
-    ( below-further (here - 128) high more (omega arith) p b
-    , record {
-        formed = record { bytes = (128 + (here - 128)) ∷ stands .formed .bytes; form = further (here - 128) high (stands .formed .bytes) (omega arith) q (stands .formed .form) };
-        within = stands .within;
-        place = omega (arith, stands .place);
-        joined = joins } )
+      let first : drop at bytes ≡ here ∷ drop (at + 1) bytes = drop-more bytes at 0 h in
+      let byte : here ≡ 128 + (here - 128) = omega arith in
+      let joins : drop at bytes ≡ (128 + (here - 128)) ∷ (stands .formed .bytes ++ drop next bytes) =
+      first ∙ ap (λ k. here ∷ k) (stands .joined) ∙ ap (λ k. k ∷ (stands .formed .bytes ++ drop next bytes)) byte in (
+        below-further (here - 128) high more (omega arith) p b,
+        record {
+          formed = record { bytes = (128 + (here - 128)) ∷ stands .formed .bytes; form = further (here - 128) high (stands .formed .bytes) (omega arith) q (stands .formed .form) };
+          within = stands .within;
+          place = omega (arith, stands .place);
+          joined = joins;
+        },
+      )
 
 -- a number that is written: one group, and then what is above it
 pub written-single : (out : List ℕ) (at n : ℕ) → at < length out → n < 128 → NumberWritten out at n (at + 1) (set out at n)
 written-single out at n h small = record {
-    formed = record { bytes = n ∷ []; form = single n small };
-    place = refl;
-    joined = rw (set-split out at n h, ← add-one) refl }
+  formed = record { bytes = n ∷ []; form = single n small };
+  place = refl;
+  joined = rw (set-split out at n h, ← add-one) refl;
+}
 
 pub written-more : (out : List ℕ) (at n next : ℕ) (after : List ℕ) → at < length out → 128 ≤ n
     → NumberWritten (set out at (128 + n % 128)) (at + 1) (n / 128) next after → NumberWritten out at n next after
@@ -162,12 +174,13 @@ written-more out at n next after h large w =
     let front : take (at + 1) put ≡ take at out ++ ((128 + n % 128) ∷ []) = take-more-set out at (128 + n % 128) h in
     let back : drop next put ≡ drop next out = drop-set-lt next out at (128 + n % 128) (omega (arith, w .place)) in
     let joins : (take at out ++ ((128 + n % 128) ∷ [])) ++ (w .formed .bytes ++ drop next out) ≡ take at out ++ ((128 + n % 128) ∷ (w .formed .bytes ++ drop next out)) =
-        append-assoc (take at out) ((128 + n % 128) ∷ []) (w .formed .bytes ++ drop next out) in
+    append-assoc (take at out) ((128 + n % 128) ∷ []) (w .formed .bytes ++ drop next out) in
     let whole : after ≡ take (at + 1) put ++ (w .formed .bytes ++ drop next put) = w .joined in
     record {
       formed = record { bytes = (128 + n % 128) ∷ w .formed .bytes; form = number-make (w .formed .bytes) n large (w .formed .form) };
       place = omega (arith, w .place);
-      joined = cc }
+      joined = cc;
+    }
 
 -- room for a number's form is room for a byte
 pub room-some : (n more at long : ℕ) → n < 128 ^ (more + 1) → ((bs : List ℕ) → Number bs n → at + length bs ≤ long) → at < long

@@ -21,8 +21,8 @@ wrote-then out at a middle half b next after h x y =
     let first : take middle half ≡ front ++ a = ap (take middle) half-is ∙ take-at (front ++ a) (drop middle out) middle long in
     let on : drop middle half ≡ drop middle out = ap (drop middle) half-is ∙ drop-at (front ++ a) (drop middle out) middle long in
     let behind : drop next half ≡ drop next out =
-        ap (λ n. drop n half) (y .place) ∙ sym (drop-drop (length b) middle half) ∙ ap (drop (length b)) on ∙ drop-drop (length b) middle out
-        ∙ ap (λ n. drop n out) (sym (y .place)) in
+    ap (λ n. drop n half) (y .place) ∙ sym (drop-drop (length b) middle half) ∙ ap (drop (length b)) on ∙ drop-drop (length b) middle out
+    ∙ ap (λ n. drop n out) (sym (y .place)) in
     let last : after ≡ take middle half ++ (b ++ drop next half) = y .joined in
     let left : (front ++ a) ++ (b ++ drop next out) ≡ front ++ (a ++ (b ++ drop next out)) = append-assoc front a (b ++ drop next out) in
     let right : (a ++ b) ++ drop next out ≡ a ++ (b ++ drop next out) = append-assoc a b (drop next out) in

@@ -8,7 +8,7 @@ use Rattle.std.proofs.shelf.Lists.{set-split}
 use native.Mathlib.Numerals.{add-one}
 use Rattle.stored_head.specs.Forms.{label-form, Wrote, Stands}
 use Rattle.records.specs.declared.head.Head.{Head}
-use Rattle.stored_head.specs.Heads.{HeadData, data-of, attributes-form, rest-form, Stored, Saved}
+use Rattle.stored_head.specs.Heads.{HeadData, data-of, attributes-form, rest-form, Stored, Saved, Long}
 use Rattle.stored_head.specs.Numbers.{Number, Formed, NumberWritten}
 use Rattle.stored_head.proofs.Groups.{formed}
 use Rattle.stored_head.proofs.Sequence.{wrote-then}
@@ -34,8 +34,8 @@ module _ (d : HeadData) (long : ℕ) (room : (bs : List ℕ) → Stored d bs →
   pub all-room : (a b : List ℕ) → Number a (d .size) → Number b (d .time)
       → length a + length b + (length (label-form (d .e-tag)) + length (label-form (d .version)) + 1 + length (attributes-form (d .attributes))) ≤ long
   all-room a b x y =
-    let form : Stored d (a ++ (b ++ rest-form d)) = record { size = record { bytes = a; form = x }; time = record { bytes = b; form = y }; joined = refl } in
-    omega (arith, room (a ++ (b ++ rest-form d)) form, stored-long d (a ++ (b ++ rest-form d)) form, rest-long d)
+      let form : Stored d (a ++ (b ++ rest-form d)) = record { size = record { bytes = a; form = x }; time = record { bytes = b; form = y }; joined = refl } in
+      omega (arith, room (a ++ (b ++ rest-form d)) form, stored-long d (a ++ (b ++ rest-form d)) form, rest-long d)
 
 number-wrote : (out : List ℕ) (at n next : ℕ) (after : List ℕ) → (w : NumberWritten out at n next after) → Wrote out at (w .formed .bytes) next after
 number-wrote out at n next after w = record { place = w .place; joined = w .joined }
@@ -56,7 +56,8 @@ saved-of d out o1 o2 o3 o4 o5 after a1 a2 a3 a4 a5 next w1 w2 w3 w4 w5 w6 h1 h2 
       bytes = w1 .formed .bytes ++ (w2 .formed .bytes ++ rest-form d);
       form = record { size = w1 .formed; time = w2 .formed; joined = refl };
       count = omega (arith, all .place);
-      joined = all .joined }
+      joined = all .joined;
+    }
 
 -- the same for a head in the code, whose size and time six groups hold
 module _ (h : Head) (long : ℕ) (room : (bs : List ℕ) → Stored (data-of h) bs → length bs ≤ long) where
@@ -68,8 +69,8 @@ module _ (h : Head) (long : ℕ) (room : (bs : List ℕ) → Stored (data-of h) 
 
   pub first-room : (m : ℕ) → m ≡ h .size → (a : List ℕ) → Number a m → length a ≤ long
   first-room m e a x =
-    let time : Formed (h .time) = formed 5 (h .time) (omega arith) in
-    omega (arith, parts-room m (h .time) e refl a (time .bytes) x (time .form))
+      let time : Formed (h .time) = formed 5 (h .time) (omega arith) in
+      omega (arith, parts-room m (h .time) e refl a (time .bytes) x (time .form))
 
 -- the length of the form, part by part
 pub stored-count : (h : Head) (s t : ℕ) → ((bs : List ℕ) → Number bs (h .size) → length bs ≡ s) → ((bs : List ℕ) → Number bs (h .time) → length bs ≡ t)
@@ -77,3 +78,17 @@ pub stored-count : (h : Head) (s t : ℕ) → ((bs : List ℕ) → Number bs (h 
     → length bs ≡ s + t + (length (label-form (data-of h .e-tag)) + length (label-form (data-of h .version))) + 1 + length (attributes-form (data-of h .attributes))
 stored-count h s t x y bs f =
     omega (arith, stored-long (data-of h) bs f, rest-long (data-of h), x (f .size .bytes) (f .size .form), y (f .time .bytes) (f .time .form))
+
+pub stored-some : (h : Head) (s t n : ℕ) → ((bs : List ℕ) → Number bs (h .size) → length bs ≡ s) → ((bs : List ℕ) → Number bs (h .time) → length bs ≡ t)
+    → n ≡ s + t + (length (label-form (data-of h .e-tag)) + length (label-form (data-of h .version))) + 1 + length (attributes-form (data-of h .attributes)) → Long (data-of h) n
+stored-some h s t n x y e =
+    let size : Formed (h .size) = formed 5 (h .size) (omega arith) in
+    let time : Formed (h .time) = formed 5 (h .time) (omega arith) in
+    let bytes : List ℕ = size .bytes ++ (time .bytes ++ rest-form (data-of h)) in
+    let form : Stored (data-of h) bytes = record { size = size; time = time; joined = refl } in
+    record {
+      bytes = bytes;
+      form = form;
+      count = stored-count h s t x y bytes form ∙ sym e;
+      only = λ bs f. stored-count h s t x y bs f ∙ sym e;
+    }

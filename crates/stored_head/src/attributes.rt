@@ -38,7 +38,12 @@ pub(crate) fn write_attributes(out: &mut [u8], at: usize, entries: &[AttributeEn
 }
 
 // Reads `left` of them, puts them behind those that are there, and answers the place behind them.
-pub(crate) fn read_attributes(bytes: &[u8], at: usize, left: usize, known: Attributes) -> Option<(Attributes, usize)>
+pub(crate) fn read_attributes(
+    bytes: &[u8],
+    at: usize,
+    left: usize,
+    known: Attributes,
+) -> Option<(Attributes, usize)>
     requires within { ⌜ at ≤ length (now bytes) ⌝ }
     requires few { ⌜ known .len + left ≤ 8 ⌝ }
     ensures { λ r. ⌜ AttributesRead (now (bytes .entry)) at left (take (known .len) (known .entries)) r ⌝ }

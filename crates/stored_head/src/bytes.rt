@@ -60,7 +60,12 @@ pub(crate) fn label_len(label: &Label) -> usize
 }
 
 // The key or value that stands at `at`, of `least` to `most` bytes, and the place behind it.
-pub(crate) fn read_sized(bytes: &[u8], at: usize, least: usize, most: usize) -> Option<(Bytes64, usize)>
+pub(crate) fn read_sized(
+    bytes: &[u8],
+    at: usize,
+    least: usize,
+    most: usize,
+) -> Option<(Bytes64, usize)>
     requires { ⌜ most ≤ 64 ⌝ }
     ensures { λ r. ⌜ SizedRead (now (bytes .entry)) at least most r ⌝ }
 {

@@ -4,18 +4,19 @@ ghost use mathlib.Core.Path.{_≡_};
 ghost use mathlib.Core.List.{List, [], _∷_};
 ghost use lib.ListN.{length};
 ghost use Rattle.stored_head.specs.Forms.{Wrote};
-ghost use Rattle.stored_head.specs.Heads.{data-of, Stored, Saved};
+ghost use Rattle.stored_head.specs.Heads.{data-of, Stored, Saved, Long, SaveAnswer};
 use crate::attributes::attributes_len;
 use crate::attributes::write_attributes;
 use crate::bytes::label_len;
 use crate::bytes::write_label;
 use crate::numbers::number_len;
 use crate::numbers::write_number;
+use records::BufferTooShort;
 use records::Head;
 
 // How many bytes the stored form of a head has, at most 927.
 pub fn stored_len(head: &Head) -> usize
-    ensures long { λ r. ⌜ ((bs : List ℕ) → Stored (data-of (now (head .entry))) bs → length bs ≡ r) ⌝ }
+    ensures long { λ r. ⌜ Long (data-of (now (head .entry))) r ⌝ }
     ensures bound { λ r. ⌜ r ≤ 927 ⌝ }
 {
     let numbers = number_len(head.size(), 5) + number_len(head.time(), 5);
@@ -45,4 +46,17 @@ fn write_form(head: &Head, out: &mut [u8]) -> usize
     let entries = head.attributes.as_slice();
     let at = write_count(out, at, entries.len());
     write_attributes(out, at, entries)
+}
+
+// Writes the stored form of a head at the beginning of a slice, and answers how many bytes it has.
+// A slice that is too short is refusal 4 and stays as it was.
+pub fn save(head: &Head, out: &mut [u8]) -> Result<usize, BufferTooShort>
+    ensures { λ r. ⌜ SaveAnswer (now (out .entry)) (data-of (now (head .entry))) r (now (out .exit)) ⌝ }
+{
+    let needed = stored_len(head);
+    let length = out.len();
+    if length < needed {
+        return Err(BufferTooShort { length, needed });
+    }
+    Ok(write_form(head, out))
 }

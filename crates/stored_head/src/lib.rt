@@ -6,4 +6,14 @@
 mod attributes;
 mod bytes;
 mod head;
+mod laws;
+mod loading;
+mod local_cache_head;
 mod numbers;
+mod read;
+
+pub use head::save;
+pub use head::stored_len;
+pub use laws::stored_forms_are_exact;
+pub use loading::load;
+pub use local_cache_head::LocalCacheHead;

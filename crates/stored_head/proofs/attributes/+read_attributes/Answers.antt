@@ -20,9 +20,10 @@ returns-in-rest-read-sized t c =
     no-attributes-value (c .args .bytes .now) (c .args .at) (c .in-Some .name .1) (c .args .left) _ (omega arith) (c .in-Some .ensures tt .2) (c .in-rest-read-sized .ensures tt)
 
 pub read-attributes-requires : need.read-attributes-requires
-read-attributes-requires t c κs =
-    ( omega arith
-    , (c .in-Some-read-sized .ensures tt .2 .within, omega (arith, c .in-Ok-push .ensures tt .1, c .pre .few)) )
+read-attributes-requires t c κs = (
+  omega arith,
+  (c .in-Some-read-sized .ensures tt .2 .within, omega (arith, c .in-Ok-push .ensures tt .1, c .pre .few)),
+)
 
 pub returns : need.returns
 unfolding name-of
@@ -30,7 +31,7 @@ returns t c =
     let name = c .in-Some .ensures tt in
     let value = c .in-Some-read-sized .ensures tt in
     let key : held (c .in-Ok .key .name .len) (c .in-Ok .key .name .bytes) ≡ held (c .in-Some .name .0 .len) (c .in-Some .name .0 .bytes) =
-        c .in-Ok .ensures tt .1 ∙ c .as-slice .ensures .value in
+    c .in-Ok .ensures tt .1 ∙ c .as-slice .ensures .value in
     attributes-read-more (c .args .bytes .now) (c .args .at) (c .in-Some .name .1) (c .args .left) _ (omega arith) (name .2)
     (c .in-Some-read-sized .value .1) _ (value .2) _ _ _ (name .0, name .1) (value .1)
     (ap (λ k. (k, held (c .in-Some-read-sized .value .0 .len) (c .in-Some-read-sized .value .0 .bytes))) key)

@@ -16,5 +16,6 @@ loop-entry-again c =
 
 pub returns : need.returns
 returns c = record {
-    value = c .loop-entry .inv .0 ∙ ap length (form-all (c .args .entries .now) (c .loop-entry .entry-index) (c .loop-entry-test .left));
-    bound = omega (arith, c .loop-entry .inv .1) }
+  value = c .loop-entry .inv .0 ∙ ap length (form-all (c .args .entries .now) (c .loop-entry .entry-index) (c .loop-entry-test .left));
+  bound = omega (arith, c .loop-entry .inv .1);
+}

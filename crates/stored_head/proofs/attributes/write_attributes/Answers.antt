@@ -28,7 +28,8 @@ write-sized-next-requires-in-loop-entry c κs =
     let value = ap length (c .as-slice .ensures .value) in
     record {
       few = c .as-slice .ensures .len .1;
-      room = omega (arith, c .loop-entry .inv .place, c .write-sized-next .ensures .place, c .write-sized-next .kept .out, c .loop-entry .kept .out, c .pre) }
+      room = omega (arith, c .loop-entry .inv .place, c .write-sized-next .ensures .place, c .write-sized-next .kept .out, c .loop-entry .kept .out, c .pre);
+    }
 
 pub loop-entry-again : need.loop-entry-again
 loop-entry-again c =
@@ -37,13 +38,13 @@ loop-entry-again c =
     let more = form-more (c .args .entries .now) (c .loop-entry .entry-index) (c .entry-item .result) (c .loop-entry-test .taken) (c .entry-item .is) in
     let so-far : List ℕ = attributes-form (pairs (take (c .loop-entry .entry-index) (c .args .entries .now))) in
     let is : so-far ++ (sized (c .name .result .now) ++ sized (c .as-slice .result .now)) ≡ attributes-form (pairs (take (c .loop-entry .entry-index + 1) (c .args .entries .now))) =
-        ap (λ n. so-far ++ (sized n ++ sized (c .as-slice .result .now))) (c .name .ensures .value)
-        ∙ ap (λ v. so-far ++ (sized (pair (c .entry-item .result) .0) ++ sized v)) (c .as-slice .ensures .value) ∙ sym more in
+    ap (λ n. so-far ++ (sized n ++ sized (c .as-slice .result .now))) (c .name .ensures .value)
+    ∙ ap (λ v. so-far ++ (sized (pair (c .entry-item .result) .0) ++ sized v)) (c .as-slice .ensures .value) ∙ sym more in
     subst (λ bs. Wrote (c .args .out .now) (c .args .at) bs (c .write-sized-next-in-loop-entry .result) (c .write-sized-next-in-loop-entry .last .out)) is
     (wrote-two (c .args .out .now) (c .args .at) so-far (c .loop-entry .next) (c .loop-entry .out) (sized (c .name .result .now)) (c .write-sized-next .result)
-      (c .write-sized-next .last .out) (sized (c .as-slice .result .now)) (c .write-sized-next-in-loop-entry .result) (c .write-sized-next-in-loop-entry .last .out)
-      (omega (arith, c .pre)) (omega (arith, c .loop-entry .inv .place, c .loop-entry .kept .out, c .pre))
-      (c .loop-entry .inv) (c .write-sized-next .ensures) (c .write-sized-next-in-loop-entry .ensures))
+    (c .write-sized-next .last .out) (sized (c .as-slice .result .now)) (c .write-sized-next-in-loop-entry .result) (c .write-sized-next-in-loop-entry .last .out)
+    (omega (arith, c .pre)) (omega (arith, c .loop-entry .inv .place, c .loop-entry .kept .out, c .pre))
+    (c .loop-entry .inv) (c .write-sized-next .ensures) (c .write-sized-next-in-loop-entry .ensures))
 
 pub returns : need.returns
 returns c =

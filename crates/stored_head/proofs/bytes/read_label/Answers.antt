@@ -13,8 +13,10 @@ returns-then-mark-eq0 c = simp (c .absent .ensures) (tt, absent-stands (c .args 
 pub returns-then-len-gt64 : need.returns-then-len-gt64
 returns-then-len-gt64 c =
     no-label (c .args .bytes .now) (c .args .at) (c .if-at-bytes .left) (c .if-mark-eq0 .left)
-    (λ l f. elim (c .then-len-gt64 .came) [ then-len-gt64·by·then-len-gt64 w ↦ omega (arith, w .if-len-gt64 .taken)
-      | then-len-gt64·by·else-len-gt64·then-len-bytes w ↦ omega (arith, w .if-len-bytes .taken) ])
+    (λ l f. elim (c .then-len-gt64 .came) [
+      | then-len-gt64·by·then-len-gt64 w ↦ omega (arith, w .if-len-gt64 .taken)
+      | then-len-gt64·by·else-len-gt64·then-len-bytes w ↦ omega (arith, w .if-len-bytes .taken)
+    ])
 
 pub returns : need.returns
 returns c =

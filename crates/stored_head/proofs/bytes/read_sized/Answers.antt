@@ -9,9 +9,11 @@ returns-then-at-bytes c = no-sized-past (c .args .bytes .now) (c .args .at) (c .
 pub returns-then-len-least : need.returns-then-len-least
 returns-then-len-least c =
     no-sized (c .args .bytes .now) (c .args .at) (c .args .least) (c .args .most) (c .if-at-bytes .left)
-    (λ l m f. elim (c .then-len-least .came) [ then-len-least·by·then-len-least w ↦ omega (arith, w .if-len-least .taken)
+    (λ l m f. elim (c .then-len-least .came) [
+      | then-len-least·by·then-len-least w ↦ omega (arith, w .if-len-least .taken)
       | then-len-least·by·else-len-least·then-len-most w ↦ omega (arith, w .if-len-most .taken)
-      | then-len-least·by·else-len-least·else-len-most·then-len-bytes w ↦ omega (arith, w .if-len-bytes .taken) ])
+      | then-len-least·by·else-len-least·else-len-most·then-len-bytes w ↦ omega (arith, w .if-len-bytes .taken)
+    ])
 
 pub returns : need.returns
 returns c =

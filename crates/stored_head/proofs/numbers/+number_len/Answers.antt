@@ -24,7 +24,8 @@ returns t c =
     record {
       bound = omega arith;
       long = λ bs form.
-        let split = number-split bs (c .args .n) (c .if-n-lt128 .left) form in
-        let above = c .number-len .ensures .long (split .above) (split .form) in
-        let whole = ap length (split .joined) in
-        omega arith }
+          let split = number-split bs (c .args .n) (c .if-n-lt128 .left) form in
+          let above = c .number-len .ensures .long (split .above) (split .form) in
+          let whole = ap length (split .joined) in
+          omega arith;
+    }

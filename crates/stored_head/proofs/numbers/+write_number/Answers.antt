@@ -26,9 +26,10 @@ add-at t c =
 
 pub write-number-requires : need.write-number-requires
 write-number-requires t c κs =
-    let less = below-less (c .args .n) (c .args .more) (c .if-n-lt128 .left) (c .pre .below) in
-    ( omega (arith, less .0)
-    , (less .1, λ bs form. simp length-set (omega (arith, c .pre .room ((128 + c .args .n % 128) ∷ bs) (number-make bs (c .args .n) (c .if-n-lt128 .left) form)))) )
+    let less = below-less (c .args .n) (c .args .more) (c .if-n-lt128 .left) (c .pre .below) in (
+      omega (arith, less .0),
+      (less .1, λ bs form. simp length-set (omega (arith, c .pre .room ((128 + c .args .n % 128) ∷ bs) (number-make bs (c .args .n) (c .if-n-lt128 .left) form)))),
+    )
 
 pub returns : need.returns
 returns t c =
