@@ -31,12 +31,13 @@ first-hex first rest high low more b p e h =
 
 pub no-first : (first : ℕ) (rest : List ℕ) (high low : ℕ) (more : List ℕ) → first ≡ 37 → rest ≡ high ∷ low ∷ more → NoHex high low → NoFirst (first ∷ rest)
 no-first first rest high low more p e n = record {
-    never = λ b r f. elim f [
-        inl x ↦ (let whole : first ∷ rest ≡ b ∷ r = x .0 in let is : b ≡ 37 = cc in x .1 is)
-      | inr x ↦ (let whole : first ∷ rest ≡ 37 ∷ x .0 ∷ x .1 ∷ r = x .2 in
-            let upper : x .0 ≡ high = cc in
-            let lower : x .1 ≡ low = cc in
-            n .never b (subst (λ (l : ℕ). Hex high l b) lower (subst (λ (h : ℕ). Hex h (x .1) b) upper (x .3)))) ];
+  never = λ b r f. elim f [
+    | inl x ↦ (let whole : first ∷ rest ≡ b ∷ r = x .0 in let is : b ≡ 37 = cc in x .1 is)
+    | inr x ↦ (let whole : first ∷ rest ≡ 37 ∷ x .0 ∷ x .1 ∷ r = x .2 in
+        let upper : x .0 ≡ high = cc in
+        let lower : x .1 ≡ low = cc in
+        n .never b (subst (λ (l : ℕ). Hex high l b) lower (subst (λ (h : ℕ). Hex h (x .1) b) upper (x .3))))
+  ];
 }
 
 -- what stands behind the first byte is one text
@@ -110,4 +111,4 @@ module _ {text left seen : List ℕ} (old : Sofar text left seen) where
 
   pub refuses : 1 ≤ length left → NoFirst (getD left 0 0 ∷ take (length left - 1) (drop 1 left)) → (bytes : List ℕ) → Spells text bytes → ⊥
   refuses h n bytes s =
-    spells-none (old .back bytes s .0) (subst (λ (l : List ℕ). NoFirst l) (sym (from-one left h)) n) h (old .back bytes s .1)
+      spells-none (old .back bytes s .0) (subst (λ (l : List ℕ). NoFirst l) (sym (from-one left h)) n) h (old .back bytes s .1)

@@ -41,7 +41,8 @@ fn write_label<W: fmt::Write>(f: &mut fmt::Formatter<W>, name: &str, label: &Lab
 fn wants_mark(key: Key) -> bool {
     match key.as_slice() {
         b"size" | b"time" | b"etag" | b"version" => true,
-        name => name.starts_with(b"metadata:") || !matches!(Attribute::named(key), Attribute::Metadata(_)),
+        name => name.starts_with(b"metadata:")
+            || !matches!(Attribute::named(key), Attribute::Metadata(_)),
     }
 }
 

@@ -1,0 +1,26 @@
+// Every damaged form of some bytes.
+use crate::tries::Count;
+use crate::tries::came;
+
+// Every truncation.
+pub fn cut_short(bytes: &[u8]) -> Count {
+    let mut count = Count::new();
+    for end in 0..bytes.len() {
+        count.add(came(&bytes[0..end]));
+    }
+    count
+}
+
+// Every other value of every byte; the bytes are then as they were.
+pub fn changed(bytes: &mut [u8]) -> Count {
+    let mut count = Count::new();
+    for i in 0..bytes.len() {
+        let was = bytes[i];
+        for step in 1..=255u8 {
+            bytes[i] = was.wrapping_add(step);
+            count.add(came(bytes));
+        }
+        bytes[i] = was;
+    }
+    count
+}
