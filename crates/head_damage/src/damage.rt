@@ -1,12 +1,12 @@
 // Every damaged form of some bytes.
 use crate::tries::Count;
-use crate::tries::came;
+use crate::tries::try_form;
 
 // Every truncation.
 pub fn cut_short(bytes: &[u8]) -> Count {
     let mut count = Count::new();
     for end in 0..bytes.len() {
-        count.add(came(&bytes[0..end]));
+        count.add(try_form(&bytes[0..end]));
     }
     count
 }
@@ -18,7 +18,7 @@ pub fn changed(bytes: &mut [u8]) -> Count {
         let was = bytes[i];
         for step in 1..=255u8 {
             bytes[i] = was.wrapping_add(step);
-            count.add(came(bytes));
+            count.add(try_form(bytes));
         }
         bytes[i] = was;
     }

@@ -25,7 +25,7 @@ fn load_as_they_are(form: &[u8]) -> bool {
     form == &room[0..len]
 }
 
-pub fn came(form: &[u8]) -> Came {
+pub fn try_form(form: &[u8]) -> Came {
     let Some(head) = load(form) else {
         return Came::NoHead;
     };
