@@ -1,1 +1,4 @@
+pub mod Bytes
+pub mod Drafts
+pub mod Said
 pub mod Texts

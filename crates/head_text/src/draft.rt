@@ -1,16 +1,11 @@
 // What the words of a line have said so far.
-use crate::escape::unescaped;
-use crate::limits::e_tag_of;
-use crate::limits::value_of;
-use crate::limits::version_of;
+ghost use mathlib.Core.Path.{_≡_};
+ghost use Rattle.head_text.specs.Drafts.{label-of, with-size, with-time, with-e-tag, with-version, with-attributes, Blank, NumberRead, LabelRead, EntryRead, NamedRead, WordRead, DraftRead};
 use crate::no_head::NoHead;
 use crate::no_head::Wrong;
-use crate::no_head::WrongFromAlloc;
-use records::Attribute;
-use records::AttributeEntry;
+use crate::said;
 use records::Attributes;
 use records::Head;
-use records::Key;
 use records::Label;
 use std::alloc::Global;
 
@@ -23,55 +18,63 @@ pub(crate) struct Draft {
     attributes: Attributes,
 }
 
-// The bytes that a text writes.
-fn bytes_of(heap: Global, text: &str) -> Result<Vec<u8>, Wrong> {
-    match unescaped(heap, text.as_bytes()) {
-        Err(_) => Err(Wrong::NoMemory),
-        Ok(None) => Err(Wrong::NoByte),
-        Ok(Some(bytes)) => Ok(bytes),
-    }
-}
-
-// The number that a text writes in decimal, where none was there before.
-fn number_of(known: Option<u64>, text: &str) -> Result<u64, Wrong> {
-    if known.is_some() {
+// A number, unless one is known.
+fn one_number(known: Option<u64>, text: &str) -> Result<u64, Wrong>
+    ensures { λ r. ⌜ NumberRead known (now (text .entry)) r ⌝ }
+{
+    if let Some(_) = known {
         return Err(Wrong::Twice);
     }
-    match text.parse::<u64>() {
-        Ok(n) => Ok(n),
-        Err(_) => Err(Wrong::NotANumber),
+    match said::number(text) {
+        Some(n) => Ok(n),
+        None => Err(Wrong::NotANumber),
     }
 }
 
-// The attribute that a key says.
-fn attribute_of(heap: Global, name: &str) -> Result<Attribute, Wrong> {
-    let Some(own) = name.strip_prefix("metadata:") else {
-        let key = key_of(heap, name)?;
-        return Ok(Attribute::named(key));
+// An e_tag, unless one is known.
+fn one_e_tag(known: &Label, heap: Global, text: &str) -> Result<Label, Wrong>
+    ensures { λ r. ⌜ LabelRead 3 (label-of (now (known .entry))) (now (text .entry)) r ⌝ }
+{
+    match known.get() {
+        Some(_) => Err(Wrong::Twice),
+        None => said::e_tag(heap, text),
+    }
+}
+
+// A version, unless one is known.
+fn one_version(known: &Label, heap: Global, text: &str) -> Result<Label, Wrong>
+    ensures { λ r. ⌜ LabelRead 4 (label-of (now (known .entry))) (now (text .entry)) r ⌝ }
+{
+    match known.get() {
+        Some(_) => Err(Wrong::Twice),
+        None => said::version(heap, text),
+    }
+}
+
+// One more attribute behind those that are known.
+fn one_more(
+    known: Attributes,
+    heap: Global,
+    name: &str,
+    text: &str,
+) -> Result<Attributes, Wrong>
+    ensures { λ r. ⌜ EntryRead known (now (name .entry)) (now (text .entry)) r ⌝ }
+{
+    let entry = match said::entry(heap, name, text) {
+        Err(wrong) => return Err(wrong),
+        Ok(entry) => entry,
     };
-    let key = key_of(heap, own)?;
-    Ok(Attribute::Metadata(key))
-}
-
-fn key_of(heap: Global, name: &str) -> Result<Key, Wrong> {
-    let bytes = bytes_of(heap, name)?;
-    match Key::new(bytes.as_slice()) {
-        Ok(key) => Ok(key),
-        Err(e) => Err(Wrong::Limit(e)),
-    }
-}
-
-fn entry_of(heap: Global, name: &str, text: &str) -> Result<AttributeEntry, Wrong> {
-    let attribute = attribute_of(heap, name)?;
-    let bytes = bytes_of(heap, text)?;
-    match value_of(bytes.as_slice()) {
-        Ok(value) => Ok(AttributeEntry { attribute, value }),
-        Err(e) => Err(Wrong::Limit(e)),
+    let mut attributes = known;
+    match attributes.push(entry) {
+        Ok(()) => Ok(attributes),
+        Err(refused) => Err(Wrong::Limit(refused)),
     }
 }
 
 impl Draft {
-    pub(crate) fn new() -> Draft {
+    pub(crate) fn new() -> Draft
+        ensures { λ r. ⌜ Blank r ⌝ }
+    {
         Draft {
             size: None,
             time: None,
@@ -81,73 +84,91 @@ impl Draft {
         }
     }
 
-    // What one more word says.
-    pub(crate) fn put(&mut self, heap: Global, word: &str) -> Result<(), Wrong> {
-        let Some((name, text)) = word.split_once('=') else {
-            return Err(Wrong::NoEquals);
-        };
+    // The draft with what one more word says.
+    pub(crate) fn with_word(self, heap: Global, word: &str) -> Result<Draft, Wrong>
+        ensures { λ r. ⌜ WordRead self (now (word .entry)) r ⌝ }
+    {
+        match word.split_once('=') {
+            Some((name, text)) => self.with_named(heap, name, text),
+            None => Err(Wrong::NoEquals),
+        }
+    }
+
+    // The draft with what `NAME=TEXT` says.
+    fn with_named(self, heap: Global, name: &str, text: &str) -> Result<Draft, Wrong>
+        ensures { λ r. ⌜ NamedRead self (now (name .entry)) (now (text .entry)) r ⌝ }
+    {
         match name {
-            "size" => {
-                let size = number_of(self.size, text)?;
-                self.size = Some(size);
-                Ok(())
-            }
-            "time" => {
-                let time = number_of(self.time, text)?;
-                self.time = Some(time);
-                Ok(())
-            }
-            "etag" => self.put_e_tag(heap, text),
-            "version" => self.put_version(heap, text),
-            _ => self.put_attribute(heap, name, text),
+            "size" => match one_number(self.size, text) {
+                Err(wrong) => Err(wrong),
+                Ok(size) => Ok(self.with_size(size)),
+            },
+            "time" => match one_number(self.time, text) {
+                Err(wrong) => Err(wrong),
+                Ok(time) => Ok(self.with_time(time)),
+            },
+            "etag" => match one_e_tag(&self.e_tag, heap, text) {
+                Err(wrong) => Err(wrong),
+                Ok(e_tag) => Ok(self.with_e_tag(e_tag)),
+            },
+            "version" => match one_version(&self.version, heap, text) {
+                Err(wrong) => Err(wrong),
+                Ok(version) => Ok(self.with_version(version)),
+            },
+            _ => match one_more(self.attributes, heap, name, text) {
+                Err(wrong) => Err(wrong),
+                Ok(attributes) => Ok(self.with_attributes(attributes)),
+            },
         }
     }
 
-    fn put_e_tag(&mut self, heap: Global, text: &str) -> Result<(), Wrong> {
-        if self.e_tag.get().is_some() {
-            return Err(Wrong::Twice);
-        }
-        let bytes = bytes_of(heap, text)?;
-        match e_tag_of(bytes.as_slice()) {
-            Err(e) => Err(Wrong::Limit(e)),
-            Ok(label) => {
-                self.e_tag = label;
-                Ok(())
-            }
+    fn with_size(self, size: u64) -> Draft
+        ensures { λ r. ⌜ r ≡ with-size self size ⌝ }
+    {
+        Draft {
+            size: Some(size),
+            ..self
         }
     }
 
-    fn put_version(&mut self, heap: Global, text: &str) -> Result<(), Wrong> {
-        if self.version.get().is_some() {
-            return Err(Wrong::Twice);
-        }
-        let bytes = bytes_of(heap, text)?;
-        match version_of(bytes.as_slice()) {
-            Err(e) => Err(Wrong::Limit(e)),
-            Ok(label) => {
-                self.version = label;
-                Ok(())
-            }
+    fn with_time(self, time: u64) -> Draft
+        ensures { λ r. ⌜ r ≡ with-time self time ⌝ }
+    {
+        Draft {
+            time: Some(time),
+            ..self
         }
     }
 
-    fn put_attribute(&mut self, heap: Global, name: &str, text: &str) -> Result<(), Wrong> {
-        let entry = entry_of(heap, name, text)?;
-        match self.attributes.push(entry) {
-            Ok(()) => Ok(()),
-            Err(e) => Err(Wrong::Limit(e)),
-        }
+    fn with_e_tag(self, e_tag: Label) -> Draft
+        ensures { λ r. ⌜ r ≡ with-e-tag self «e_tag» ⌝ }
+    {
+        Draft { e_tag, ..self }
+    }
+
+    fn with_version(self, version: Label) -> Draft
+        ensures { λ r. ⌜ r ≡ with-version self version ⌝ }
+    {
+        Draft { version, ..self }
+    }
+
+    fn with_attributes(self, attributes: Attributes) -> Draft
+        ensures { λ r. ⌜ r ≡ with-attributes self attributes ⌝ }
+    {
+        Draft { attributes, ..self }
     }
 
     // The head that the words say.
-    pub(crate) fn head(&self) -> Result<Head, NoHead> {
+    pub(crate) fn head(self) -> Result<Head, NoHead>
+        ensures { λ r. ⌜ DraftRead self r ⌝ }
+    {
         let Some(size) = self.size else {
             return Err(NoHead::NoSize);
         };
         let time = self.time.unwrap_or(0);
         match Head::new(size, time, self.e_tag, self.version, self.attributes) {
             Ok(head) => Ok(head),
-            Err(e) => Err(NoHead::Limit(e)),
+            Err(refused) => Err(NoHead::Limit(refused)),
         }
     }
 }

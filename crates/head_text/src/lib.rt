@@ -6,10 +6,10 @@
 // `metadata:KEY=TEXT` is metadata under any key. In a key and a text `%` and two hex digits write a byte.
 mod draft;
 mod escape;
-mod limits;
 mod messages;
 mod no_head;
 mod read;
+mod said;
 mod stored;
 mod written;
 

@@ -1,6 +1,5 @@
 // The ways in which words say no head, or no stored bytes.
 use records::InvalidHead;
-use std::alloc::AllocError;
 
 // What is wrong with a word.
 #[derive(Clone, Copy)]
@@ -37,10 +36,4 @@ pub enum NoBytes {
     Word(usize),
     // memory ran out
     NoMemory,
-}
-
-pub(crate) impl From<AllocError> for Wrong as WrongFromAlloc {
-    fn from(_e: AllocError) -> Wrong {
-        Wrong::NoMemory
-    }
 }
