@@ -31,16 +31,17 @@ lists-more ws i bs after w b h x y e =
 pub lists-wrong : (ws : List Word) (i : ℕ) (bs : List ℕ) (w : Word) → i < length ws → Lists (take i ws) bs → Countless (getD ws i w .now) → FirstCountless ws (i + 1)
 lists-wrong ws i bs w h x y =
     let joined : ws ≡ (take i ws ++ (getD ws i w ∷ [])) ++ drop (i + 1) ws =
-        sym (take-append-drop (i + 1) ws) ∙ ap (λ (l : List Word). l ++ drop (i + 1) ws) (one-more ws i w h) in
+    sym (take-append-drop (i + 1) ws) ∙ ap (λ (l : List Word). l ++ drop (i + 1) ws) (one-more ws i w h) in
     record {
-        front = take i ws;
-        w = getD ws i w;
-        back = drop (i + 1) ws;
-        cut = joined ∙ append-assoc (take i ws) (getD ws i w ∷ []) (drop (i + 1) ws);
-        place = omega (arith, length-take-le i ws (omega arith));
-        before = bs;
-        well = x;
-        wrong = y }
+      front = take i ws;
+      w = getD ws i w;
+      back = drop (i + 1) ws;
+      cut = joined ∙ append-assoc (take i ws) (getD ws i w ∷ []) (drop (i + 1) ws);
+      place = omega (arith, length-take-le i ws (omega arith));
+      before = bs;
+      well = x;
+      wrong = y;
+    }
 
 pub lists-all : (ws : List Word) (i : ℕ) (bs : List ℕ) → length ws ≤ i → Lists (take i ws) bs → Lists ws bs
 lists-all ws i bs h x = subst (λ (l : List Word). Lists l bs) (take-all i ws h) x

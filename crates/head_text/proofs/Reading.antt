@@ -34,19 +34,26 @@ reads-more d m e ws i w h x y =
 pub wrong-at : (d m : Draft) (ws : List Word) (i : ℕ) (w : Word) (e : Wrong) → Blank d → i < length ws → Reads d (take i ws) m → WordRead m (getD ws i w .now) (Err e) → HeadRead ws (Err (no-head.Word (i + 1) e))
 wrong-at d m ws i w e b h x y =
     let joined : ws ≡ (take i ws ++ (getD ws i w ∷ [])) ++ drop (i + 1) ws =
-        sym (take-append-drop (i + 1) ws) ∙ ap (λ (l : List Word). l ++ drop (i + 1) ws) (one-more ws i w h) in
+    sym (take-append-drop (i + 1) ws) ∙ ap (λ (l : List Word). l ++ drop (i + 1) ws) (one-more ws i w h) in
     record {
-        first = d;
-        blank = b;
-        reads = inl (i + 1, e, record {
-            front = take i ws;
-            w = getD ws i w;
-            back = drop (i + 1) ws;
-            cut = joined ∙ append-assoc (take i ws) (getD ws i w ∷ []) (drop (i + 1) ws);
-            place = omega (arith, length-take-le i ws (omega arith));
-            before = m;
-            well = x;
-            wrong = y }, refl) }
+      first = d;
+      blank = b;
+      reads = inl (
+        i + 1,
+        e,
+        record {
+          front = take i ws;
+          w = getD ws i w;
+          back = drop (i + 1) ws;
+          cut = joined ∙ append-assoc (take i ws) (getD ws i w ∷ []) (drop (i + 1) ws);
+          place = omega (arith, length-take-le i ws (omega arith));
+          before = m;
+          well = x;
+          wrong = y;
+        },
+        refl,
+      );
+    }
 
 pub reads-all : (d m : Draft) (ws : List Word) (i : ℕ) (r : Result Head NoHead) → Blank d → length ws ≤ i → Reads d (take i ws) m → DraftRead m r → HeadRead ws r
 reads-all d m ws i r b h x y =

@@ -99,7 +99,7 @@ pub record NamedRead (d : Draft) (name text : List ℕ) (r : Result Draft Wrong)
       ⊎ ((name ≡ codes "etag") × ((s : Result Label Wrong) × LabelRead 3 (label-of (d .«e_tag»)) text s × Puts (with-e-tag d) s r))
       ⊎ ((name ≡ codes "version") × ((s : Result Label Wrong) × LabelRead 4 (label-of (d .version)) text s × Puts (with-version d) s r))
       ⊎ ((name ≡ codes "size" → ⊥) × (name ≡ codes "time" → ⊥) × (name ≡ codes "etag" → ⊥) × (name ≡ codes "version" → ⊥)
-          × ((s : Result Attributes Wrong) × EntryRead (d .attributes) name text s × Puts (with-attributes d) s r))
+      × ((s : Result Attributes Wrong) × EntryRead (d .attributes) name text s × Puts (with-attributes d) s r))
 
 -- no byte is `=`
 pub record NoEqual (bs : List ℕ) : Type 0 where

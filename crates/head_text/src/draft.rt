@@ -52,12 +52,7 @@ fn one_version(known: &Label, heap: Global, text: &str) -> Result<Label, Wrong>
 }
 
 // One more attribute behind those that are known.
-fn one_more(
-    known: Attributes,
-    heap: Global,
-    name: &str,
-    text: &str,
-) -> Result<Attributes, Wrong>
+fn one_more(known: Attributes, heap: Global, name: &str, text: &str) -> Result<Attributes, Wrong>
     ensures { λ r. ⌜ EntryRead known (now (name .entry)) (now (text .entry)) r ⌝ }
 {
     let entry = match said::entry(heap, name, text) {
