@@ -13,6 +13,7 @@ mod messages;
 mod names;
 mod path;
 mod refused;
+mod request;
 mod tag;
 
 pub use attribute::Attribute;
@@ -30,6 +31,7 @@ pub use path::Path;
 pub use refused::BufferTooShort;
 pub use refused::InvalidHead;
 pub use refused::InvalidPath;
+pub use request::Request;
 pub use tag::ObjectStoreCallTag;
 pub use tag::SstType;
 pub use tag::TableStoreKind;

@@ -73,6 +73,13 @@ fn merged(entries: &[AttributeEntry]) -> Attributes
 }
 
 impl LocalCacheHead {
+    // A head as it would be stored.
+    pub fn of(head: &Head) -> LocalCacheHead
+        ensures { λ r. ⌜ data-of (r .names) ≡ data-of (now (head .entry)) ⌝ }
+    {
+        LocalCacheHead { names: *head }
+    }
+
     // The head: each attribute is what its name says, and of equal names the later stays.
     pub fn head(&self) -> Head
         ensures { λ r. ⌜ Loaded (data-of (now (self .entry) .names)) r ⌝ }
