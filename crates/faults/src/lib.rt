@@ -6,6 +6,8 @@
 mod cause;
 mod fault;
 mod messages;
+#[cfg(test)]
+mod tests;
 
 pub use cause::Cause;
 pub use cause::StoreFailure;

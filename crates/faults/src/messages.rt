@@ -39,6 +39,6 @@ pub impl fmt::Display for Fault as FaultDisplay {
         let number = self.cause.number();
         let cause = &self.cause;
         let layers = self.layers;
-        write!(f, "{cause} (refusal {number}, through {layers} layers)")
+        write!(f, "{cause} (refusal {number}, layers passed: {layers})")
     }
 }

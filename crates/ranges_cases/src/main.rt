@@ -1,6 +1,8 @@
 // Reads requests from standard input and prints what comes of each on one short line, to be held to what
 // tools/range_cases.py expects: answer | what goes down | its body | pieces.
 mod short;
+#[cfg(test)]
+mod tests;
 
 use planning::Plan;
 use planning::read_request;

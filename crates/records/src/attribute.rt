@@ -55,3 +55,18 @@ pub struct AttributeEntry {
     pub attribute: Attribute,
     pub value: Bytes64,
 }
+
+impl AttributeEntry {
+    // A value of more than 64 bytes is refusal 3.
+    pub fn new(attribute: Attribute, value: &[u8]) -> Result<AttributeEntry, InvalidHead>
+        ensures { λ r. ⌜ ByOk r (λ e. (length (now (value .entry)) ≤ 64) × (e .attribute ≡ attribute) × (held (e .value .len) (e .value .bytes) ≡ now (value .entry))) (λ e. (64 < length (now (value .entry))) × (of-head e ≡ invalid-head 7 (length (now (value .entry))))) ⌝ }
+    {
+        let Some(held) = Bytes64::new(value) else {
+            return Err(InvalidHead::Value(value.len()));
+        };
+        Ok(AttributeEntry {
+            attribute,
+            value: held,
+        })
+    }
+}

@@ -17,7 +17,7 @@ pub struct Bytes64 {
 impl Bytes64 {
     // The bytes, where there are at most 64.
     pub fn new(bytes: &[u8]) -> Option<Bytes64>
-        ensures { λ r. ⌜ BySome r (64 < length (now (bytes .entry))) (λ b. held (b .len) (b .bytes) ≡ now (bytes .entry)) ⌝ }
+        ensures { λ r. ⌜ BySome r (64 < length (now (bytes .entry))) (λ b. (length (now (bytes .entry)) ≤ 64) × (held (b .len) (b .bytes) ≡ now (bytes .entry))) ⌝ }
     {
         let len = bytes.len();
         if len > 64 {

@@ -3,7 +3,7 @@
 //
 // Uses `ranges`. Every crate above may use it.
 // Promises: a maker gives the value that it was asked for, or refuses it (2 a path, 3 what a head holds)
-// exactly where it is past its limits. Equal contents are equal values.
+// exactly where it is past its limits. Equal byte strings, paths and labels are equal values.
 mod attribute;
 mod attributes;
 mod bytes64;
@@ -13,6 +13,7 @@ mod messages;
 mod names;
 mod path;
 mod refused;
+mod request;
 mod tag;
 
 pub use attribute::Attribute;
@@ -30,6 +31,7 @@ pub use path::Path;
 pub use refused::BufferTooShort;
 pub use refused::InvalidHead;
 pub use refused::InvalidPath;
+pub use request::Request;
 pub use tag::ObjectStoreCallTag;
 pub use tag::SstType;
 pub use tag::TableStoreKind;

@@ -2,7 +2,8 @@
 use Prim.Native.Nat.{ℕ, _+_, _^_, _≤_, _<_}
 use mathlib.Core.Path.{_≡_}
 use mathlib.Core.List.{List, [], _∷_, _++_}
-use lib.ListN.{length, take, drop}
+use mathlib.Core.Logic.{_⊎_}
+use lib.ListN.{length, take, drop, getD}
 use Rattle.std.specs.declared.option.Option.{Option}
 use Rattle.std.specs.declared.option.Option.the-variants.{None, Some}
 use Rattle.records.specs.declared.bytes64.Bytes64.{Bytes64}
@@ -51,3 +52,8 @@ pub record NoLabel (bytes : List ℕ) (at : ℕ) : Type 0 where
 abbrev pub LabelRead : (bytes : List ℕ) (at : ℕ) → Option (Label × ℕ) → Type 0
 LabelRead bytes at None = NoLabel bytes at
 LabelRead bytes at (Some r) = LabelWithin (labelled (r .0 .len) (r .0 .bytes)) × Stands bytes at (label-form (labelled (r .0 .len) (r .0 .bytes))) (r .1)
+
+-- a number of attributes stands at `at`
+abbrev pub CountRead : (bytes : List ℕ) (at : ℕ) → Option ℕ → Type 0
+CountRead bytes at None = (length bytes ≤ at) ⊎ ((at < length bytes) × (8 < getD bytes at 0))
+CountRead bytes at (Some n) = (at < length bytes) × (n ≡ getD bytes at 0) × (n ≤ 8)

@@ -1,8 +1,9 @@
 -- What a head is once it is loaded.
-use Prim.Native.Nat.{ℕ}
+use Prim.Native.Nat.{ℕ, _+_}
 use mathlib.Core.Path.{_≡_}
 use mathlib.Core.List.{List, [], _∷_}
-use lib.ListN.{take}
+use mathlib.Core.Bool.{Bool}
+use lib.ListN.{take, drop, getD}
 use Rattle.std.specs.declared.option.Option.{Option}
 use Rattle.std.specs.declared.option.Option.the-variants.{None, Some}
 use Rattle.records.specs.declared.attribute.Attribute.{Attribute}
@@ -10,7 +11,7 @@ use Rattle.records.specs.declared.attribute.Attribute.the-variants.{CacheContro
 use Rattle.records.specs.declared.attribute.AttributeEntry.{AttributeEntry}
 use Rattle.records.specs.declared.head.Head.{Head}
 use Rattle.records.specs.Names.{key-of, name-of, Unknown}
-use Rattle.stored_head.specs.Heads.{HeadData, Named, data-of, pair, pairs, merged, Within, Stored, NoHead}
+use Rattle.stored_head.specs.Heads.{HeadData, Named, data-of, pair, pairs, name-in, merged, Within, Stored, NoHead}
 
 -- an attribute is metadata only where its name is none of the five
 abbrev pub Kind : Attribute → Type 0
@@ -29,6 +30,10 @@ Kinds (e ∷ es) = Kind (e .attribute) × Kinds es
 pub record Renamed (e r : AttributeEntry) : Type 0 where
   pub same : pair r ≡ pair e
   pub kind : Kind (r .attribute)
+
+-- whether the name of the i-th comes again
+pub record Again (es : List AttributeEntry) (i : ℕ) (b : Bool) : Type 0 where
+  pub answer : (e : AttributeEntry) → e ≡ getD es i e → b ≡ name-in (pair e .0) (pairs (drop (i + 1) es))
 
 -- rs are es by their names, of equal names the later
 pub record Refilled (es rs : List AttributeEntry) : Type 0 where

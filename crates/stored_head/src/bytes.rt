@@ -4,7 +4,7 @@ ghost use mathlib.Core.Path.{_≡_};
 ghost use mathlib.Core.List.{_∷_};
 ghost use lib.ListN.{length};
 ghost use Rattle.records.specs.Padded.{labelled};
-ghost use Rattle.stored_head.specs.Forms.{Wrote, sized, label-form, LabelWithin, SizedRead, LabelRead};
+ghost use Rattle.stored_head.specs.Forms.{Wrote, sized, label-form, LabelWithin, SizedRead, LabelRead, CountRead};
 use records::Bytes64;
 use records::Label;
 
@@ -82,6 +82,20 @@ pub(crate) fn read_sized(
         return None;
     };
     Some((held, end))
+}
+
+// The number of attributes that stands at `at`, one byte of at most 8.
+pub(crate) fn read_count(bytes: &[u8], at: usize) -> Option<usize>
+    ensures { λ r. ⌜ CountRead (now (bytes .entry)) at r ⌝ }
+{
+    if at >= bytes.len() {
+        return None;
+    }
+    let count = bytes[at] as usize;
+    if count > 8 {
+        return None;
+    }
+    Some(count)
 }
 
 // The e_tag or version that stands at `at`, and the place behind it.

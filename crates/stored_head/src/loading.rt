@@ -1,10 +1,10 @@
 // From a head as it is stored to a head.
 ghost use Prim.Native.Nat.{_+_, _≤_, _<_};
 ghost use mathlib.Core.Path.{_≡_};
-ghost use lib.ListN.{length, take};
+ghost use lib.ListN.{length, take, drop};
 ghost use Rattle.records.specs.Names.{name-of};
 ghost use Rattle.stored_head.specs.Heads.{data-of, pairs, name-in};
-ghost use Rattle.stored_head.specs.Loads.{Loaded, LoadAnswer, Renamed, Refilled};
+ghost use Rattle.stored_head.specs.Loads.{Loaded, LoadAnswer, Renamed, Refilled, Again};
 use crate::local_cache_head::LocalCacheHead;
 use records::Attribute;
 use records::AttributeEntry;
@@ -39,6 +39,24 @@ fn named(entry: &AttributeEntry) -> AttributeEntry
     }
 }
 
+// The attributes behind the i-th.
+fn behind(entries: &[AttributeEntry], i: usize) -> &[AttributeEntry]
+    requires { ⌜ i < length (now entries) ⌝ }
+    ensures { λ r. ⌜ now r ≡ drop (i + 1) (now (entries .entry)) ⌝ }
+{
+    let (_, back) = entries.split_at(i + 1);
+    back
+}
+
+// Whether a later attribute has the name of the i-th.
+fn comes_again(entries: &[AttributeEntry], i: usize) -> bool
+    requires { ⌜ i < length (now entries) ⌝ }
+    ensures { λ r. ⌜ Again (now (entries .entry)) i r ⌝ }
+{
+    let entry = &entries[i];
+    has_name(behind(entries, i), entry.attribute.name())
+}
+
 // The attributes by their names, of equal names the later.
 fn merged(entries: &[AttributeEntry]) -> Attributes
     requires { ⌜ length (now entries) ≤ 8 ⌝ }
@@ -47,7 +65,7 @@ fn merged(entries: &[AttributeEntry]) -> Attributes
     let mut all = Attributes::new();
     for i in 0..entries.len() {
         let entry = &entries[i];
-        if !has_name(&entries[i + 1..entries.len()], entry.attribute.name()) {
+        if !comes_again(entries, i) {
             let _ = all.push(named(entry));
         }
     }
@@ -55,6 +73,13 @@ fn merged(entries: &[AttributeEntry]) -> Attributes
 }
 
 impl LocalCacheHead {
+    // A head as it would be stored.
+    pub fn of(head: &Head) -> LocalCacheHead
+        ensures { λ r. ⌜ data-of (r .names) ≡ data-of (now (head .entry)) ⌝ }
+    {
+        LocalCacheHead { names: *head }
+    }
+
     // The head: each attribute is what its name says, and of equal names the later stays.
     pub fn head(&self) -> Head
         ensures { λ r. ⌜ Loaded (data-of (now (self .entry) .names)) r ⌝ }

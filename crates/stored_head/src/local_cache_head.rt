@@ -1,7 +1,7 @@
-// A head as it is stored: its attributes by their names alone.
+// A head as it is stored.
 use records::Head;
 
-// Each attribute is metadata under its name, and names may come twice.
+// What it tells of an attribute is its name and its value, not its kind, and a name may come twice.
 #[derive(Clone, Copy)]
 pub struct LocalCacheHead {
     pub(crate) names: Head,

@@ -1,5 +1,5 @@
 // Numbers in groups of seven bits, the lowest first.
-ghost use Prim.Native.Nat.{ℕ, _+_, _-_, _*_, _^_, _≤_, _<_};
+ghost use Prim.Native.Nat.{ℕ, _+_, _-_, _*_, _%_, _^_, _≤_, _<_};
 ghost use mathlib.Core.Path.{_≡_};
 ghost use mathlib.Core.List.{List, _++_};
 ghost use lib.ListN.{length, take, drop};
@@ -42,6 +42,13 @@ pub(crate) fn read_number(bytes: &[u8], at: usize, more: usize) -> Option<(u64, 
     Some((byte - 128 + 128 * high, next))
 }
 
+// The lowest group of a number that has more.
+fn low_group(n: u64) -> u8
+    ensures { λ r. ⌜ r ≡ 128 + n % 128 ⌝ }
+{
+    (128 + n % 128) as u8
+}
+
 // Writes a number below 128^(more + 1) at `at`, and answers the place behind it.
 pub(crate) fn write_number(out: &mut [u8], at: usize, n: u64, more: usize) -> usize
     requires below { ⌜ n < 128 ^ (more + 1) ⌝ }
@@ -52,6 +59,6 @@ pub(crate) fn write_number(out: &mut [u8], at: usize, n: u64, more: usize) -> us
         out[at] = n as u8;
         return at + 1;
     }
-    out[at] = (128 + n % 128) as u8;
+    out[at] = low_group(n);
     write_number(out, at + 1, n / 128, more - 1)
 }

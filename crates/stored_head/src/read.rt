@@ -1,6 +1,7 @@
 // Reading a stored head.
 ghost use Rattle.stored_head.specs.Heads.{NamesRead};
 use crate::attributes::read_attributes;
+use crate::bytes::read_count;
 use crate::bytes::read_label;
 use crate::local_cache_head::LocalCacheHead;
 use crate::numbers::read_number;
@@ -25,13 +26,9 @@ impl LocalCacheHead {
             return None;
         };
         let at = version.1;
-        if at >= bytes.len() {
+        let Some(count) = read_count(bytes, at) else {
             return None;
-        }
-        let count = bytes[at] as usize;
-        if count > 8 {
-            return None;
-        }
+        };
         let Some(attributes) = read_attributes(bytes, at + 1, count, Attributes::new()) else {
             return None;
         };

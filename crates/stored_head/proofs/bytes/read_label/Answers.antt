@@ -20,6 +20,6 @@ returns-then-len-gt64 c =
 
 pub returns : need.returns
 returns c =
-    simp (c .in-Some .ensures tt)
+    simp (c .in-Some .ensures tt .1)
     (let r = present-stands (c .args .bytes .now) (c .args .at) (c .if-at-bytes .left) (c .if-mark-eq0 .left) (c .if-len-bytes .left) _ refl in
     (omega (arith, r .0, c .if-len-gt64 .left), r .1))

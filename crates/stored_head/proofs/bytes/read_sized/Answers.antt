@@ -17,5 +17,5 @@ returns-then-len-least c =
 
 pub returns : need.returns
 returns c =
-    let r = sized-stands (c .args .bytes .now) (c .args .at) (c .if-at-bytes .left) (c .if-len-bytes .left) _ (c .in-Some .ensures tt) in
+    let r = sized-stands (c .args .bytes .now) (c .args .at) (c .if-at-bytes .left) (c .if-len-bytes .left) _ (c .in-Some .ensures tt .1) in
     (omega (arith, r .0), omega (arith, r .0), r .1)

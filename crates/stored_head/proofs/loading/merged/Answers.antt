@@ -10,7 +10,7 @@ use Rattle.stored_head.specs.Heads.{pairs, merged, name-in, pair}
 use Rattle.stored_head.specs.Loads.{Kinds}
 use Rattle.stored_head.proofs.Merging.{ok-only, merged-drops, merged-keeps, merged-end, kinds-none, kinds-push}
 use Rattle.stored_head.proofs.loading.merged.Needs as need
-use Rattle.stored_head.proofs.loading.merged.Needs.{then-not-has-name, else-not-has-name}
+use Rattle.stored_head.proofs.loading.merged.Needs.{then-not-comes-again, else-not-comes-again}
 
 pub loop-i-holds : need.loop-i-holds
 loop-i-holds c = (
@@ -19,34 +19,26 @@ loop-i-holds c = (
   omega (arith, c .new-all .ensures .0),
 )
 
--- whether the name comes again is what has_name answered
-again : (c : need.Joined-not-has-name) → name-in (pair (c .index-entries-i .result) .0) (pairs (drop (c .loop-i .i + 1) (c .args .entries .now))) ≡ c .has-name .result
-again c =
-    let es = c .args .entries .now in
-    sym (c .has-name .ensures
-    ∙ ap (λ k. name-in k (pairs (take (length es - (c .loop-i .i + 1)) (drop (c .loop-i .i + 1) es)))) (c .name .ensures .value)
-    ∙ ap (λ xs. name-in (pair (c .index-entries-i .result) .0) (pairs xs)) (take-rest es (c .loop-i .i + 1)))
-
 -- the invariant with one entry less to come, of any attributes
-abbrev Next : (c : need.Joined-not-has-name) → Attributes → Type 0
+abbrev Next : (c : need.Joined-not-comes-again) → Attributes → Type 0
 Next c a =
     (merged (pairs (c .args .entries .now)) ≡ pairs (take (a .len) (a .entries)) ++ merged (pairs (drop (c .loop-i .i + 1) (c .args .entries .now)))) × Kinds (take (a .len) (a .entries))
     × (a .len ≤ c .loop-i .i + 1)
 
 pub loop-i-again : need.loop-i-again
-loop-i-again c = elim (c .if-not-has-name .came) [
-  | then-not-has-name w ↦
+loop-i-again c = elim (c .if-not-comes-again .came) [
+  | then-not-comes-again w ↦
       let pushed = ok-only (w .push .result) _ _ (w .push .ensures) (λ e q. omega (arith, q .0, c .loop-i .inv .2, c .loop-i-test .taken, c .pre)) in
       subst (Next c) (sym (w .all-is)) (
         merged-keeps (c .args .entries .now) (c .loop-i .i) (c .index-entries-i .result) (c .loop-i-test .taken) (c .index-entries-i .is)
-            (take (c .loop-i .all .len) (c .loop-i .all .entries)) _ (w .named .result) (c .loop-i .inv .0) (again c ∙ w .if-not-has-name .taken) (pushed .2) (w .named .ensures .same),
+            (take (c .loop-i .all .len) (c .loop-i .all .entries)) _ (w .named .result) (c .loop-i .inv .0) (sym (c .comes-again .ensures .answer (c .index-entries-i .result) (c .index-entries-i .is)) ∙ w .if-not-comes-again .taken) (pushed .2) (w .named .ensures .same),
         subst Kinds (sym (pushed .2)) (kinds-push (take (c .loop-i .all .len) (c .loop-i .all .entries)) (w .named .result) (c .loop-i .inv .1) (w .named .ensures .kind)),
         omega (arith, pushed .1, c .loop-i .inv .2),
       )
-  | else-not-has-name w ↦
+  | else-not-comes-again w ↦
       subst (Next c) (sym (w .all-is)) (
         merged-drops (c .args .entries .now) (c .loop-i .i) (c .index-entries-i .result) (c .loop-i-test .taken) (c .index-entries-i .is)
-            (take (c .loop-i .all .len) (c .loop-i .all .entries)) (c .loop-i .inv .0) (again c ∙ w .if-not-has-name .left),
+            (take (c .loop-i .all .len) (c .loop-i .all .entries)) (c .loop-i .inv .0) (sym (c .comes-again .ensures .answer (c .index-entries-i .result) (c .index-entries-i .is)) ∙ w .if-not-comes-again .left),
         c .loop-i .inv .1,
         omega (arith, c .loop-i .inv .2),
       )

@@ -1,7 +1,9 @@
-use Prim.Native.Nat.{_%_, _+_}
+use Prim.Native.Nat.{_/_, _%_, _+_}
+use mathlib.Core.Path.{subst}
 use mathlib.Core.List.{_∷_}
-use lib.ListN.{length, length-set}
+use lib.ListN.{length, set, length-set}
 use native.Mathlib.Omega.{arith}
+use Rattle.stored_head.specs.Numbers.{NumberWritten}
 use Rattle.stored_head.proofs.Groups.{room-some, below-less, number-make, written-single, written-more}
 use Rattle.stored_head.proofs.numbers.+write_number.Needs as need
 
@@ -35,4 +37,6 @@ pub returns : need.returns
 returns t c =
     written-more (c .args .out .now) (c .args .at) (c .args .n) (c .write-number .result) (c .write-number .last .out)
     (room-some (c .args .n) (c .args .more) (c .args .at) (length (c .args .out .now)) (c .pre .below) (c .pre .room))
-    (c .if-n-lt128 .left) (c .write-number .ensures)
+    (c .if-n-lt128 .left)
+    (subst (λ b. NumberWritten (set (c .args .out .now) (c .args .at) b) (c .args .at + 1) (c .args .n / 128) (c .write-number .result) (c .write-number .last .out))
+    (c .low-group .ensures) (c .write-number .ensures))

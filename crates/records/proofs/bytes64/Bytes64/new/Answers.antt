@@ -13,6 +13,8 @@ ghost-result c = (
 )
 
 pub returns : need.returns
-returns c =
-    filled-held 64 (c .args .bytes .now) (c .loop-i .held)
-    (filled 64 (c .args .bytes .now) (c .loop-i .i) (c .loop-i .held) (omega arith) (omega arith) (c .loop-i .inv))
+returns c = (
+  omega arith,
+  filled-held 64 (c .args .bytes .now) (c .loop-i .held)
+      (filled 64 (c .args .bytes .now) (c .loop-i .i) (c .loop-i .held) (omega arith) (omega arith) (c .loop-i .inv)),
+)
