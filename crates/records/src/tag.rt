@@ -16,8 +16,9 @@ pub enum TableStoreKind {
 }
 
 // What the called object is.
-#[derive(Clone, Copy, Debug, PartialEq, Eq)]
+#[derive(Clone, Copy, Debug, Default, PartialEq, Eq, Hash)]
 pub enum SstType {
+    #[default]
     Compacted,
     Wal,
 }
