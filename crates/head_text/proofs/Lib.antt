@@ -1,3 +1,4 @@
+mod Entering
 mod Listing
 mod Reading
 mod Spelling

@@ -13,8 +13,6 @@ use crate::escape::unescaped;
 use crate::no_head::Wrong;
 use records::Attribute;
 use records::AttributeEntry;
-use records::Bytes64;
-use records::InvalidHead;
 use records::Key;
 use records::Label;
 use std::alloc::Global;
@@ -48,9 +46,9 @@ pub(crate) fn e_tag(heap: Global, text: &str) -> Result<Label, Wrong>
         Err(wrong) => return Err(wrong),
         Ok(bytes) => bytes,
     };
-    match Label::present(bytes.as_slice()) {
-        Some(label) => Ok(label),
-        None => Err(Wrong::Limit(InvalidHead::ETag(bytes.len()))),
+    match Label::e_tag(bytes.as_slice()) {
+        Ok(label) => Ok(label),
+        Err(refused) => Err(Wrong::Limit(refused)),
     }
 }
 
@@ -62,23 +60,23 @@ pub(crate) fn version(heap: Global, text: &str) -> Result<Label, Wrong>
         Err(wrong) => return Err(wrong),
         Ok(bytes) => bytes,
     };
-    match Label::present(bytes.as_slice()) {
-        Some(label) => Ok(label),
-        None => Err(Wrong::Limit(InvalidHead::Version(bytes.len()))),
+    match Label::version(bytes.as_slice()) {
+        Ok(label) => Ok(label),
+        Err(refused) => Err(Wrong::Limit(refused)),
     }
 }
 
-// An attribute's value of more than 64 bytes is refusal 3.
-fn value(heap: Global, text: &str) -> Result<Bytes64, Wrong>
-    ensures { λ r. ⌜ ByOk r (λ v. Spells (now (text .entry)) (held (v .len) (v .bytes))) (λ e. Oversized 7 (now (text .entry)) e) ⌝ }
+// An attribute with the value that a text writes; one of more than 64 bytes is refusal 3.
+fn valued(attribute: Attribute, heap: Global, text: &str) -> Result<AttributeEntry, Wrong>
+    ensures { λ r. ⌜ ByOk r (λ x. (x .attribute ≡ attribute) × Spells (now (text .entry)) (held (x .value .len) (x .value .bytes))) (λ e. Oversized 7 (now (text .entry)) e) ⌝ }
 {
     let bytes = match bytes_of(heap, text) {
         Err(wrong) => return Err(wrong),
         Ok(bytes) => bytes,
     };
-    match Bytes64::new(bytes.as_slice()) {
-        Some(value) => Ok(value),
-        None => Err(Wrong::Limit(InvalidHead::Value(bytes.len()))),
+    match AttributeEntry::new(attribute, bytes.as_slice()) {
+        Ok(entry) => Ok(entry),
+        Err(refused) => Err(Wrong::Limit(refused)),
     }
 }
 
@@ -123,12 +121,8 @@ fn attribute(heap: Global, name: &str) -> Result<Attribute, Wrong>
 pub(crate) fn entry(heap: Global, name: &str, text: &str) -> Result<AttributeEntry, Wrong>
     ensures { λ r. ⌜ ByOk r (λ x. Enters (now (name .entry)) (now (text .entry)) x) (λ e. Unentered (now (name .entry)) (now (text .entry)) e) ⌝ }
 {
-    let attribute = match attribute(heap, name) {
-        Err(wrong) => return Err(wrong),
-        Ok(attribute) => attribute,
-    };
-    match value(heap, text) {
+    match attribute(heap, name) {
         Err(wrong) => Err(wrong),
-        Ok(value) => Ok(AttributeEntry { attribute, value }),
+        Ok(meant) => valued(meant, heap, text),
     }
 }
