@@ -4,6 +4,8 @@
 // Promises: the evicting cache is a cache again. What it tracks, what it asks of its host and what it drops are
 // exactly what the rules say; its total is always the sum of the tracked sizes, and at most the maximum unless one
 // key is left.
+#![tactic(auto)]
+
 mod evicting;
 mod evicting_cache;
 mod evictor;

@@ -3,6 +3,8 @@
 // Uses `ranges` and `records`, whose own refusals it takes over. Every crate above may use it.
 // Promises: each cause has its number, reason and values of the closed list; a fault that passes a layer
 // keeps its cause and counts one layer more.
+#![tactic(auto)]
+
 mod cause;
 mod fault;
 mod messages;

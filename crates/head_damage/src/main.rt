@@ -3,6 +3,8 @@
 // A line of standard input is `bytes` and decimal numbers. Every truncation of these bytes is tried, and every
 // other value of every byte. A head that loads is saved again, and the saved bytes have to load as the same
 // bytes.
+#![tactic(auto)]
+
 mod damage;
 mod tries;
 

@@ -9,6 +9,8 @@
 // wrong with it, or which limit the size or the time breaks, unless memory fails; `read_bytes` answers exactly
 // the bytes that the words write, or the first word that writes none; `unescaped` the bytes that a text writes,
 // or that it writes none. What `Written` and the messages print is run and compared, and not proved.
+#![tactic(auto)]
+
 mod draft;
 mod escape;
 mod messages;

@@ -3,6 +3,8 @@
 // A line is a head as crate `head_text` reads it: what is stored for it is printed, and what that loads as. Or
 // it is `bytes` and decimal numbers: what these load as is printed. A line that is neither is said to be none,
 // and the rest goes on.
+#![tactic(auto)]
+
 mod show;
 mod tally;
 

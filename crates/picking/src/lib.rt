@@ -3,6 +3,8 @@
 // Uses `hosts` for draws and `index` for the table of keys.
 // Promises: the picked keys are those that the draws and the times say, in that order, for every host. A pick takes
 // at most 128 draws, two rounds and two passes over the table.
+#![tactic(auto)]
+
 mod choice;
 mod counts;
 mod drawing;

@@ -2,6 +2,8 @@
 //
 // Each line is `SIZE PART_SIZE RANGE`, as crate `planning` reads it. A line that is no request is said to be
 // none, and the rest goes on.
+#![tactic(auto)]
+
 mod show;
 mod tally;
 

@@ -6,6 +6,8 @@
 // or the first thing that is wrong with them from the left; `Plan::of` answers exactly what an open of it
 // comes to when a head is held, and what goes down when none is; a `Cut` has each piece at its place in the
 // object; `words_of` answers the words of a line up to its comment, unless memory fails.
+#![tactic(auto)]
+
 mod cut;
 mod exact;
 mod messages;

@@ -4,6 +4,8 @@
 // Promises: a policy gives one tag always the same action. The default policies give those of the tables of
 // docs/RULES.md, a fixed policy those that it was made with. By the tables no untagged call and none for
 // the log touches the cache, and a get that is made again is never answered from what is held.
+#![tactic(auto)]
+
 mod action;
 mod get_policy;
 mod put_policy;

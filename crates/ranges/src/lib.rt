@@ -5,6 +5,8 @@
 // bad range (6), `align_get_range` rounds outward to multiples of the part size or refuses (7), and
 // `split_range_into_parts` cuts a range with each part that it meets. A `PartSize` is within its limits
 // from its making on (1), and a `ByteRange` never runs backward.
+#![tactic(auto)]
+
 mod align;
 mod byte_range;
 mod canonical;

@@ -4,6 +4,8 @@
 // Promises of each call, for all numbers and every slice: its status, and every byte of the slice after it.
 // Refusals come in the order 1 (part size), 4 (slice too short), then 6 (range) or 7 (rounding), and a
 // refused call leaves the slice as it was.
+#![tactic(auto)]
+
 mod calls;
 mod refused;
 mod serve;

@@ -1,5 +1,7 @@
 // Reads requests from standard input and prints what comes of each on one short line, to be held to what
 // tools/range_cases.py expects: answer | what goes down | its body | pieces.
+#![tactic(auto)]
+
 mod short;
 #[cfg(test)]
 mod tests;

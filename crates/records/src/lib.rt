@@ -4,6 +4,8 @@
 // Uses `ranges`. Every crate above may use it.
 // Promises: a maker gives the value that it was asked for, or refuses it (2 a path, 3 what a head holds)
 // exactly where it is past its limits. Equal byte strings, paths and labels are equal values.
+#![tactic(auto)]
+
 mod attribute;
 mod attributes;
 mod bytes64;

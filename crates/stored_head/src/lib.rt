@@ -3,6 +3,8 @@
 // Uses `ranges` and `records`.
 // Promises: writing gives exactly the stored form of a head, or refuses a slice that is too short for it
 // (4) and leaves it as it was; reading accepts exactly the stored forms of heads within their limits.
+#![tactic(auto)]
+
 mod attributes;
 mod bytes;
 mod head;
