@@ -1,10 +1,10 @@
 -- A range cut with its parts has the laws of `Split`.
-use Rattle.std.proofs.Common.{◌≡◌, ℕ, zero, suc, ◌+◌, ◌-◌, ◌*◌, ◌/◌, ◌%◌, ◌<◌, ◌≤◌, min, max, List, [], ◌++◌, take, drop, sym, refl, ap, ◌∙◌, inl, inr, ⊎_elim, mul-le-mul_right, mod-lt, add-mul, eq-zero-or-pos, mul-le-mul_left, div-add-mod', mul-one, add-one, arith}
+use Rattle.std.proofs.Common.{◌≡◌, ℕ, zero, suc, ◌+◌, ◌-◌, ◌*◌, ◌/◌, ◌%◌, ◌<◌, ◌≤◌, min, List, ◌++◌, take, drop, sym, refl, ap, ◌∙◌, ⊎_elim, mul-le-mul_right, mod-lt, add-mul, eq-zero-or-pos, mul-le-mul_left, div-add-mod', mul-one, add-one, arith}
 use native.Mathlib.Decide.{dec_lt}
 use Rattle.std.proofs.lemmas.List.{take-append-drop, take-take, drop-take, drop-drop}
-use Rattle.ranges.specs.Pieces.{part_at, cut_begin, cut_end, bytes_of, joined_pieces, Split, part_count, Met, PartAt}
+use Rattle.ranges.specs.Pieces.{part_at, cut_begin, cut_end, bytes_of, joined_pieces, part_count, Met, PartAt}
 use Rattle.ranges.specs.Rounding.{Multiple, Down, Up}
-use Rattle.ranges.proofs.Rounds.{times_more, times_past, times_same, up_same, down_same, rest_of}
+use Rattle.ranges.proofs.Rounds.{times_more, times_past, up_same, down_same}
 
 -- a front and what follows it
 take_then : (m k : ℕ) (ys : List ℕ) → take m ys ++ take k (drop m ys) ≡ take (m + k) ys

@@ -1,13 +1,13 @@
 -- The definitions allow one answer, and give the worked examples.
-use Rattle.std.proofs.Common.{◌≡◌, ℕ, ◌+◌, ◌-◌, ◌^◌, ◌<◌, ◌≤◌, sym, refl, ap, ◌∙◌, inl, inr, ⊎_elim, arith, lit<, lit≤, rules}
+use Rattle.std.proofs.Common.{◌≡◌, ℕ, ◌-◌, ◌^◌, ◌<◌, ◌≤◌, sym, refl, ◌∙◌, inl, inr, arith, lit<, lit≤}
 use native.Mathlib.Decide.{dec_lt}
 use Rattle.ranges.specs.declared.get_range.GetRange.{GetRange}
 use Rattle.ranges.specs.declared.get_range.GetRange.TheVariants.{All, Bounded, Offset, Suffix}
 use Rattle.ranges.specs.Exact.{Determined, WorkedExamples}
-use Rattle.ranges.specs.Pieces.{PieceAt, Split}
+use Rattle.ranges.specs.Pieces.{Split}
 use Rattle.ranges.specs.Refusals.{Refusal}
-use Rattle.ranges.specs.Requests.{Asked, Canonical, Refuses}
-use Rattle.ranges.specs.Rounding.{Down, Up, Overflows}
+use Rattle.ranges.specs.Requests.{Canonical, Refuses}
+use Rattle.ranges.specs.Rounding.{Overflows}
 use Rattle.ranges.proofs.Cuts.{met}
 use Rattle.ranges.proofs.Rounds.{up_same, down_same, rest_of}
 

@@ -1,7 +1,7 @@
 -- Where the multiples of a part size lie.
 use Rattle.std.proofs.Common.{◌≡◌, ℕ, ◌+◌, ◌-◌, ◌*◌, ◌/◌, ◌%◌, ◌<◌, ◌≤◌, ◌⊎◌, sym, ap, ◌∙◌, inl, inr, ⊎_elim, mul-le-mul_right, mod-lt, add-mul, one-mul, div-add-mod', arith}
 use native.Mathlib.Decide.{dec_lt}
-use Rattle.ranges.specs.Rounding.{Multiple, Down, Up, Rest}
+use Rattle.ranges.specs.Rounding.{Down, Up, Rest}
 
 -- one multiple more is one part more
 pub times_more : (p k : ℕ) → (k + 1) * p ≡ k * p + p

@@ -1,5 +1,5 @@
 -- The limits of records, and their refusals.
-use Rattle.std.specs.Prelude.{◌≡◌, ℕ, ◌^◌, ◌<◌, ◌≤◌, ◌⊎◌, List, [], ◌∷◌}
+use Rattle.std.specs.Prelude.{◌≡◌, ℕ, ◌^◌, ◌<◌, ◌≤◌, ◌⊎◌, [], ◌∷◌}
 use Rattle.ranges.specs.Refusals.{Refusal}
 use Rattle.records.specs.declared.refused.BufferTooShort.{BufferTooShort}
 use Rattle.records.specs.declared.refused.InvalidPath.{InvalidPath}

@@ -16,9 +16,9 @@ loop-record-preserved g c =
     let i = c.loop-record.record-index in
     let r = c.record-item.result in
     let in' : i < length (entries_of rs) = rw length-map c.loop-record-test.true in
-    forgets_one_more g.C.LocalCacheStorage.sense g.C.ForgetfulCache.drops i (entry_of r) _ c.remove-entry.result
+    forgets_one_more g.C.LocalCacheStorage.sense g.C.ForgetfulCache.drops i (entry_of r) _ c.remove_entry.result
     c.requires in' (entry_read rs i r c.loop-record-test.true c.record-item.is) c.loop-record.index.distinct
-    c.loop-record.invariant c.drop-entry.ensures.state c.drop-entry.ensures.held c.remove-entry.ensures
+    c.loop-record.invariant c.drop_entry.ensures.state c.drop_entry.ensures.held c.remove_entry.ensures
 
 pub returns : goal.returns
 returns g c =

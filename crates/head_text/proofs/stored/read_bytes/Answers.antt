@@ -5,9 +5,9 @@ use Rattle.head_text.proofs.stored.read_bytes.Goals as goal
 pub loop-i-init : goal.loop-i-init
 loop-i-init c = lists_none (vec_items c.new-bytes.result) c.new-bytes.ensures.items
 
-pub returns-in-default : goal.returns-in-default
-returns-in-default c =
-    lists_wrong c.args.words.now c.loop-i.i (vec_items c.loop-i.bytes) _ c.loop-i-test.true c.loop-i.invariant c.in-default.ensures
+pub returns-in_default : goal.returns-in_default
+returns-in_default c =
+    lists_wrong c.args.words.now c.loop-i.i (vec_items c.loop-i.bytes) _ c.loop-i-test.true c.loop-i.invariant c.in_default.ensures
 
 pub loop-i-preserved : goal.loop-i-preserved
 loop-i-preserved c =

@@ -4,7 +4,7 @@ use Rattle.std.proofs.lemmas.Bool.{not-true, not-false}
 use Rattle.index.specs.Table.{entry_of, entries_of}
 use Rattle.picking.proofs.Unpicked.{left_unpicked, left_picked, left_none}
 use Rattle.picking.proofs.counts.available_count.Goals as goal
-use Rattle.picking.proofs.counts.available_count.Goals.{then-is-unpicked, else-is-unpicked}
+use Rattle.picking.proofs.counts.available_count.Goals.{then-is_unpicked, else-is_unpicked}
 
 pub loop-i-preserved : goal.loop-i-preserved
 loop-i-preserved c =
@@ -16,12 +16,12 @@ loop-i-preserved c =
     let same = length-map c.args.keys.now entry_of in
     let m : i < length marks = omega arith in
     let l : i < length es = omega arith in
-    elim c.if-is-unpicked.branch [
-      | then-is-unpicked w ↦
-          let step = ap length (left_unpicked marks es i d m l (not-true _ (sym c.is-unpicked.ensures ∙ w.if-is-unpicked.true))) in
+    elim c.if-is_unpicked.branch [
+      | then-is_unpicked w ↦
+          let step = ap length (left_unpicked marks es i d m l (not-true _ (sym c.is_unpicked.ensures ∙ w.if-is_unpicked.true))) in
           (omega (arith, w.count_is), omega (arith, w.count_is))
-      | else-is-unpicked w ↦
-          let step = ap length (left_picked marks es i d m l (not-false _ (sym c.is-unpicked.ensures ∙ w.if-is-unpicked.false))) in
+      | else-is_unpicked w ↦
+          let step = ap length (left_picked marks es i d m l (not-false _ (sym c.is_unpicked.ensures ∙ w.if-is_unpicked.false))) in
           (omega (arith, w.count_is), omega (arith, w.count_is))
     ]
 

@@ -11,8 +11,8 @@ use Rattle.picking.proofs.picks.pick_evict_targets.Goals as goal
 pub loop-keys-init : goal.loop-keys-init
 loop-keys-init g c = run_begins g.H.Host.draws c.none-marks.ensures (ap entries_of c.clear.ensures.items)
 
-pub pick-one-place-requires : goal.pick-one-place-requires
-pick-one-place-requires g c =
+pub pick_one-place-requires : goal.pick_one-place-requires
+pick_one-place-requires g c =
     (c.records-keys.ensures.few, two_left (entries_of c.records-keys.result.now) c.loop-keys.marks.picked c.args.target (sym c.loop-keys-test.ensures))
 
 pub push-requires : goal.push-requires
@@ -33,19 +33,19 @@ loop-keys-smaller g c =
     let few = c.records-keys.ensures.few in
     let table = length-map keys entry_of in
     let long = c.loop-keys.marks.whole in
-    let within = c.pick-one-place.ensures.within in
+    let within = c.pick_one-place.ensures.within in
     let marked = ap (λ ms. length (unpicked ms (entries_of keys))) c.pick.ensures in
-    let falls = length_marked marks (entries_of keys) c.pick-one-place.result (omega arith) (omega arith) c.pick-one-place.ensures.fresh in
+    let falls = length_marked marks (entries_of keys) c.pick_one-place.result (omega arith) (omega arith) c.pick_one-place.ensures.fresh in
     omega arith
 
 pub loop-keys-preserved : goal.loop-keys-preserved
 loop-keys-preserved g c =
     let keys = c.records-keys.result.now in
     let key = c.index-keys-place.result in
-    let place = c.pick-one-place.result in
+    let place = c.pick_one-place.result in
     let entry = entry_of key in
-    let is : entry ≡ get_or (entries_of keys) place entry = ap entry_of c.index-keys-place.is ∙ sym (read_entry keys place key entry c.pick-one-place.ensures.within) in
-    run_grows g.H.Host.draws c.loop-keys.invariant (sym c.loop-keys-test.ensures) (c.pick-one-place.ensures.pick entry is)
+    let is : entry ≡ get_or (entries_of keys) place entry = ap entry_of c.index-keys-place.is ∙ sym (read_entry keys place key entry c.pick_one-place.ensures.within) in
+    run_grows g.H.Host.draws c.loop-keys.invariant (sym c.loop-keys-test.ensures) (c.pick_one-place.ensures.pick entry is)
     c.pick.ensures (ap entries_of c.push.ensures.items ∙ map_push entry_of (vec_items c.loop-keys.targets.records) key)
 
 pub returns : goal.returns

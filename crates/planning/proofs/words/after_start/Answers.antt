@@ -3,4 +3,4 @@ use Rattle.planning.proofs.Heads.{starts}
 use Rattle.planning.proofs.words.after_start.Goals as goal
 
 pub returns-in-to : goal.returns-in-to
-returns-in-to c = starts c.args.start c.args.words.now _ _ (search rules) c.in-to.is-to c.after-to.ensures
+returns-in-to c = starts c.args.start c.args.words.now _ _ (search rules) c.in-to.is-to c.after_to.ensures

@@ -4,5 +4,5 @@ use Rattle.ranges.proofs.split.parts_met.Goals as goal
 
 pub returns : goal.returns
 returns c =
-    simp (c.start.ensures, c.div-ceil.ensures, c.end.ensures, c.get-bytes.ensures)
-    (met c.args.part-size.bytes c.args.range.start c.args.range.end (omega arith) (omega arith))
+    simp (c.start.ensures, c.div_ceil.ensures, c.end.ensures, c.get-bytes.ensures)
+    (met c.args.part_size.bytes c.args.range.start c.args.range.end (omega arith) (omega arith))

@@ -7,8 +7,8 @@ loop-i-init c = in_bytes_none c.args.out.now
 
 pub loop-i-preserved : goal.loop-i-preserved
 loop-i-preserved c =
-    store_more c.args.numbers.now c.args.out.now c.loop-i.out c.copy-from-slice.new.self c.loop-i.i _
-    c.loop-i-test.true c.requires c.loop-i.invariant (omega arith) (c.copy-from-slice.ensures.after ∙ c.low-first.ensures)
+    store_more c.args.numbers.now c.args.out.now c.loop-i.out c.copy_from_slice.new.self c.loop-i.i _
+    c.loop-i-test.true c.requires c.loop-i.invariant (omega arith) (c.copy_from_slice.ensures.after ∙ c.low_first.ensures)
 
 pub returns : goal.returns
 returns c = store_all c.args.numbers.now c.args.out.now c.loop-i.out c.loop-i.i c.loop-i.invariant (omega arith)

@@ -1,4 +1,4 @@
 use Rattle.stored_head.proofs.attributes.+read_attributes.Given as goal
 
-abbrev pub decreases-read-attributes : goal.decreases-read-attributes
-decreases-read-attributes l = l.left
+abbrev pub decreases-read_attributes : goal.decreases-read_attributes
+decreases-read_attributes l = l.left

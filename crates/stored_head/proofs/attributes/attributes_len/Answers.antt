@@ -9,8 +9,8 @@ pub loop-entry-preserved : goal.loop-entry-preserved
 loop-entry-preserved c =
     let more = form_more_long c.args.entries.now c.loop-entry.entry-index c.entry-item.result c.loop-entry-test.true c.entry-item.is in
     let name = ap length c.name.ensures.value in
-    let value = ap length c.as-slice.ensures.value in
-    (omega (arith, c.loop-entry.invariant.0), omega (arith, c.loop-entry.invariant.1, c.name.ensures.long, c.as-slice.ensures.len))
+    let value = ap length c.as_slice.ensures.value in
+    (omega (arith, c.loop-entry.invariant.0), omega (arith, c.loop-entry.invariant.1, c.name.ensures.long, c.as_slice.ensures.len))
 
 pub returns : goal.returns
 returns c = record {

@@ -4,5 +4,5 @@ use Rattle.stored_head.proofs.bytes.write_marked.Goals as goal
 
 pub returns : goal.returns
 returns c =
-    simp c.copy-from-slice.ensures.after
+    simp c.copy_from_slice.ensures.after
     (marked_wrote c.args.out.now c.args.at c.args.mark _ c.args.bytes.now (omega arith) (omega arith))

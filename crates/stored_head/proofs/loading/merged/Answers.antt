@@ -5,7 +5,7 @@ use Rattle.stored_head.specs.Heads.{pairs, merged, name_in, pair}
 use Rattle.stored_head.specs.Loads.{Kinds}
 use Rattle.stored_head.proofs.Merging.{ok_only, merged_drops, merged_keeps, merged_end, kinds_none, kinds_push}
 use Rattle.stored_head.proofs.loading.merged.Goals as goal
-use Rattle.stored_head.proofs.loading.merged.Goals.{then-not-comes-again, else-not-comes-again}
+use Rattle.stored_head.proofs.loading.merged.Goals.{then-not-comes_again, else-not-comes_again}
 
 pub loop-i-init : goal.loop-i-init
 loop-i-init c = (
@@ -15,25 +15,25 @@ loop-i-init c = (
 )
 
 -- the invariant with one entry less to come, of any attributes
-abbrev Next : (c : goal.Joined-not-comes-again) → Attributes → Type 0
+abbrev Next : (c : goal.Joined-not-comes_again) → Attributes → Type 0
 Next c a =
     (merged (pairs c.args.entries.now) ≡ pairs (take a.len a.entries) ++ merged (pairs (drop (c.loop-i.i + 1) c.args.entries.now))) × Kinds (take a.len a.entries)
     × (a.len ≤ c.loop-i.i + 1)
 
 pub loop-i-preserved : goal.loop-i-preserved
-loop-i-preserved c = elim c.if-not-comes-again.branch [
-  | then-not-comes-again w ↦
+loop-i-preserved c = elim c.if-not-comes_again.branch [
+  | then-not-comes_again w ↦
       let pushed = ok_only w.push.result _ _ w.push.ensures (λ e q. omega (arith, q.0, c.loop-i.invariant.2, c.loop-i-test.true, c.requires)) in
       subst (Next c) (sym w.all-is) (
         merged_keeps c.args.entries.now c.loop-i.i c.index-entries-i.result c.loop-i-test.true c.index-entries-i.is
-            (take c.loop-i.all.len c.loop-i.all.entries) _ w.named.result c.loop-i.invariant.0 (sym (c.comes-again.ensures.answer c.index-entries-i.result c.index-entries-i.is) ∙ w.if-not-comes-again.true) pushed.2 w.named.ensures.same,
+            (take c.loop-i.all.len c.loop-i.all.entries) _ w.named.result c.loop-i.invariant.0 (sym (c.comes_again.ensures.answer c.index-entries-i.result c.index-entries-i.is) ∙ w.if-not-comes_again.true) pushed.2 w.named.ensures.same,
         subst Kinds (sym pushed.2) (kinds_push (take c.loop-i.all.len c.loop-i.all.entries) w.named.result c.loop-i.invariant.1 w.named.ensures.kind),
         omega (arith, pushed.1, c.loop-i.invariant.2),
       )
-  | else-not-comes-again w ↦
+  | else-not-comes_again w ↦
       subst (Next c) (sym w.all-is) (
         merged_drops c.args.entries.now c.loop-i.i c.index-entries-i.result c.loop-i-test.true c.index-entries-i.is
-            (take c.loop-i.all.len c.loop-i.all.entries) c.loop-i.invariant.0 (sym (c.comes-again.ensures.answer c.index-entries-i.result c.index-entries-i.is) ∙ w.if-not-comes-again.false),
+            (take c.loop-i.all.len c.loop-i.all.entries) c.loop-i.invariant.0 (sym (c.comes_again.ensures.answer c.index-entries-i.result c.index-entries-i.is) ∙ w.if-not-comes_again.false),
         c.loop-i.invariant.1,
         omega (arith, c.loop-i.invariant.2),
       )

@@ -11,9 +11,9 @@ returns-then-byte-lt128 t c = stands_single c.args.bytes.now c.args.at c.args.mo
 pub returns-then-more-eq0 : goal.returns-then-more-eq0
 returns-then-more-eq0 t c = stands_not_more c.args.bytes.now c.args.at c.args.more c.if-at-bytes.false c.if-byte-lt128.false c.if-more-eq0.true
 
-pub returns-in-default : goal.returns-in-default
-returns-in-default t c =
-    stands_not_rest c.args.bytes.now c.args.at c.args.more c.if-at-bytes.false c.if-byte-lt128.false (omega arith) c.in-default.ensures
+pub returns-in_default : goal.returns-in_default
+returns-in_default t c =
+    stands_not_rest c.args.bytes.now c.args.at c.args.more c.if-at-bytes.false c.if-byte-lt128.false (omega arith) c.in_default.ensures
 
 pub returns-then-high-eq0 : goal.returns-then-high-eq0
 returns-then-high-eq0 t c =
@@ -26,13 +26,13 @@ fits t c low small =
     below_fits (low + 128 * c.in-Some.high) c.args.more c.requires
     (below_further low c.in-Some.high c.args.more small (omega arith) c.in-Some.ensures.0)
 
-pub overflow-mul-result : goal.overflow-mul-result
-overflow-mul-result t c = record { fits = omega (arith, fits t c 0 (omega arith)) }
+pub overflow_mul-result : goal.overflow_mul-result
+overflow_mul-result t c = record { fits = omega (arith, fits t c 0 (omega arith)) }
 
-pub overflow-add-result-2 : goal.overflow-add-result-2
-overflow-add-result-2 t c = record { fits = fits t c (get_or c.args.bytes.now c.args.at 0 - 128) (omega (arith, (c.type-inv.bytes c.args.at).fits)) }
+pub overflow_add-result-2 : goal.overflow_add-result-2
+overflow_add-result-2 t c = record { fits = fits t c (get_or c.args.bytes.now c.args.at 0 - 128) (omega (arith, (c.type_inv.bytes c.args.at).fits)) }
 
 pub returns : goal.returns
 returns t c =
-    stands_more c.args.bytes.now c.args.at c.args.more c.if-at-bytes.false c.if-byte-lt128.false (c.type-inv.bytes c.args.at).fits (omega arith)
+    stands_more c.args.bytes.now c.args.at c.args.more c.if-at-bytes.false c.if-byte-lt128.false (c.type_inv.bytes c.args.at).fits (omega arith)
     c.in-Some.high c.in-Some.next (omega arith) c.in-Some.ensures.0 c.in-Some.ensures.1

@@ -9,5 +9,5 @@ use Rattle.evictor.proofs.evictor.Evictor.evict.Goals as goal
 pub forget-requires : goal.forget-requires
 forget-requires g c =
     let x = c.args.self.now.index in
-    subst (λ l. Forgettable (tracked_in x) (entries_of l)) (sym c.as-slice.ensures)
-    (picks_forgettable g.H.Host.draws (few_tracked x) x.distinct c.pick-evict-targets.ensures)
+    subst (λ l. Forgettable (tracked_in x) (entries_of l)) (sym c.as_slice.ensures)
+    (picks_forgettable g.H.Host.draws (few_tracked x) x.distinct c.pick_evict_targets.ensures)

@@ -4,22 +4,22 @@ use Rattle.evictor.specs.Evicts.{not_tracked, not_answered, answered}
 use Rattle.evictor.proofs.Through.{through, without}
 use Rattle.evictor.proofs.evictor.Evictor.read_head.Goals as goal
 
-pub returns-then-not-is-tracked : goal.returns-then-not-is-tracked
-returns-then-not-is-tracked g c =
-    let untracked = sym c.if-not-is-tracked.ensures in
+pub returns-then-not-is_tracked : goal.returns-then-not-is_tracked
+returns-then-not-is_tracked g c =
+    let untracked = sym c.if-not-is_tracked.ensures in
     record { answer = without (λ o. HeadRead o None) _ _ untracked refl; state = not_tracked untracked refl }
 
-pub returns-in-default : goal.returns-in-default
-returns-in-default g c =
-    let tracked = sym c.if-not-is-tracked.ensures in
-    let e = c.in-default.ensures in
+pub returns-in_default : goal.returns-in_default
+returns-in_default g c =
+    let tracked = sym c.if-not-is_tracked.ensures in
+    let e = c.in_default.ensures in
     record { answer = through (λ o. HeadRead o None) _ _ tracked e.answer; state = not_answered tracked e.state refl }
 
 pub returns : goal.returns
 returns g c =
-    let tracked = sym c.if-not-is-tracked.ensures in
+    let tracked = sym c.if-not-is_tracked.ensures in
     let e = c.in-Some.ensures in
     record {
       answer = through (λ o. HeadRead o (Some c.in-Some.head)) _ _ tracked e.answer;
-      state = answered tracked e.state c.note-read.ensures;
+      state = answered tracked e.state c.note_read.ensures;
     }

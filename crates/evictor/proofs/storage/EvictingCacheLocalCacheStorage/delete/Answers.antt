@@ -3,8 +3,8 @@ use Rattle.evictor.proofs.Bounds.{deletes_bound}
 use Rattle.evictor.proofs.Whole.{a_delete}
 use Rattle.evictor.proofs.storage.EvictingCacheLocalCacheStorage.delete.Goals as goal
 
-pub invariant-of-self : goal.invariant-of-self
-invariant-of-self g c =
+pub invariant_of-self : goal.invariant_of-self
+invariant_of-self g c =
     (deletes_bound g.C.LocalCacheStorage.sense (state_of c.args.self.now.evictor) (state_of c.delete.new.self) _ c.delete.ensures c.args.self.now.bound, tt)
 
 pub returns : goal.returns

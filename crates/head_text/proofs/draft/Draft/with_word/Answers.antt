@@ -5,7 +5,7 @@ use Rattle.head_text.proofs.draft.Draft.with_word.Goals as goal
 pub returns-in-Some : goal.returns-in-Some
 returns-in-Some c =
     let parts = split_parts 61 c.args.word.now (Some (c.in-Some.name, c.in-Some.text)) c.in-Some.ensures.cases (omega arith) in
-    record { reads = inr (c.in-Some.name.now, c.in-Some.text.now, parts.0, record { never = parts.1 }, c.with-named.ensures) }
+    record { reads = inr (c.in-Some.name.now, c.in-Some.text.now, parts.0, record { never = parts.1 }, c.with_named.ensures) }
 
 pub returns-in-None : goal.returns-in-None
 returns-in-None c =

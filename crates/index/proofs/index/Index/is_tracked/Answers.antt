@@ -12,4 +12,4 @@ found_is_tracked k es (Some i) p = sym (tracks_at p.1)
 
 pub returns : goal.returns
 returns c =
-    c.is-some.ensures ∙ found_is_tracked (key_of c.args.key.now) (tracked_in c.args.self.now) c.find.result c.find.ensures
+    c.is_some.ensures ∙ found_is_tracked (key_of c.args.key.now) (tracked_in c.args.self.now) c.find.result c.find.ensures

@@ -35,15 +35,15 @@ whole path old new left (Some r) a g none = head_and_parts path a.1 a.0 g none
 pub loop-part-init : goal.loop-part-init
 loop-part-init c =
     let path = path_bytes c.args.path in
-    no_part_gone path (tracked_in c.remove-entry.new.self)
-    (not_left (head_key path) c.args.self.now c.remove-entry.new.self c.remove-entry.result c.remove-entry.ensures)
+    no_part_gone path (tracked_in c.remove_entry.new.self)
+    (not_left (head_key path) c.args.self.now c.remove_entry.new.self c.remove_entry.result c.remove_entry.ensures)
 
 pub loop-part-smaller : goal.loop-part-smaller
 loop-part-smaller c =
     let path = path_bytes c.args.path in
     let old = c.loop-part.self in
-    let new = c.remove-entry-in-Some.new.self in
-    let out = taken_out (part_key path c.in-Some.part) old new c.remove-entry-in-Some.result c.remove-entry-in-Some.ensures (smallest_tracked path (tracked_in old) c.in-Some.part c.in-Some.ensures) in
+    let new = c.remove_entry-in-Some.new.self in
+    let out = taken_out (part_key path c.in-Some.part) old new c.remove_entry-in-Some.result c.remove_entry-in-Some.ensures (smallest_tracked path (tracked_in old) c.in-Some.part c.in-Some.ensures) in
     let fewer = removed_length out.2 in
     let n = length-map old.table.records.items entry_of in
     let m = length-map new.table.records.items entry_of in
@@ -53,11 +53,11 @@ pub loop-part-preserved : goal.loop-part-preserved
 loop-part-preserved c =
     let path = path_bytes c.args.path in
     let old = c.loop-part.self in
-    let new = c.remove-entry-in-Some.new.self in
-    let out = taken_out (part_key path c.in-Some.part) old new c.remove-entry-in-Some.result c.remove-entry-in-Some.ensures (smallest_tracked path (tracked_in old) c.in-Some.part c.in-Some.ensures) in
+    let new = c.remove_entry-in-Some.new.self in
+    let out = taken_out (part_key path c.in-Some.part) old new c.remove_entry-in-Some.result c.remove_entry-in-Some.ensures (smallest_tracked path (tracked_in old) c.in-Some.part c.in-Some.ensures) in
     part_gone path c.in-Some.part c.loop-part.invariant old.distinct c.in-Some.ensures out.2 out.1
 
 pub returns : goal.returns
 returns c =
-    whole (path_bytes c.args.path) c.args.self.now c.remove-entry.new.self (tracked_in c.loop-part.self) c.remove-entry.result
-    c.remove-entry.ensures c.loop-part.invariant (sym c.in-default.ensures)
+    whole (path_bytes c.args.path) c.args.self.now c.remove_entry.new.self (tracked_in c.loop-part.self) c.remove_entry.result
+    c.remove_entry.ensures c.loop-part.invariant (sym c.in_default.ensures)

@@ -10,8 +10,8 @@ at-requires c =
     let n = length-map c.args.self.now.table.records.items entry_of in
     omega arith
 
-pub invariant-of-self : goal.invariant-of-self
-invariant-of-self c =
+pub invariant_of-self : goal.invariant_of-self
+invariant_of-self c =
     let now : c.touch.new.self.time ≡ c.args.time = search rules in
     let touched = set_touches c.args.self.now.table.records.items c.at.result.now c.touch.new.self c.in-Some.ensures.1 c.at.ensures.value c.touch.ensures.key c.touch.ensures.size now in (
       c.args.self.now.few,

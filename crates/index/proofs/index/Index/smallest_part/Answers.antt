@@ -21,7 +21,7 @@ loop-record-preserved c =
     let l : i < length rs = omega arith in
     let within : i < length es = let n = length-map c.args.self.now.table.records.items entry_of in let w = ap length v in omega arith in
     let more = smallest_more path c.loop-record.smallest es i (entry_of r) within (subst P v (entry_read rs i r l c.record-item.is)) in
-    let now = c.smaller-smallest.ensures ∙ ap (smaller_of c.loop-record.smallest) c.part-of.ensures in
+    let now = c.smaller-smallest.ensures ∙ ap (smaller_of c.loop-record.smallest) c.part_of.ensures in
     ap (λ o. smaller_of o (smallest_part path (drop (i + 1) es))) now ∙ sym more ∙ c.loop-record.invariant
 
 pub returns : goal.returns

@@ -1,4 +1,4 @@
-use Rattle.std.proofs.Common.{◌<◌, arith}
+use Rattle.std.proofs.Common.{arith}
 use Rattle.ranges.proofs.Rounds.{rest_of}
 use Rattle.ranges.proofs.part_size.PartSize.rest.Goals as goal
 

@@ -12,11 +12,11 @@ module _ (s : Pieces) (i : ℕ) (h : i < s.len) where
   met : PartAt s.part_size.bytes s.range.start s.range.end i (s.first + i) ((s.first + i) * s.part_size.bytes)
   met = simp s.begun (part_met s.part_size.bytes s.range.start s.range.end (omega arith) (omega arith) i (omega arith))
 
-pub overflow-add-part : goal.overflow-add-part
-overflow-add-part c = let h = small c.args.self.now c.args.i c.requires in search rules
+pub overflow_add-part : goal.overflow_add-part
+overflow_add-part c = let h = small c.args.self.now c.args.i c.requires in search rules
 
-pub overflow-mul-result : goal.overflow-mul-result
-overflow-mul-result c = simp c.get.ensures (let h = (met c.args.self.now c.args.i c.requires).exists in search rules)
+pub overflow_mul-result : goal.overflow_mul-result
+overflow_mul-result c = simp c.get.ensures (let h = (met c.args.self.now c.args.i c.requires).exists in search rules)
 
 pub returns : goal.returns
 returns c = simp c.get.ensures (met c.args.self.now c.args.i c.requires)

@@ -24,4 +24,4 @@ returns-in-ContentType c = record { value = sym (ap name_of c.in-ContentType.is)
 
 pub returns-in-Metadata : goal.returns-in-Metadata
 unfolding name_of
-returns-in-Metadata c = record { value = c.as-slice.ensures.value ∙ sym (ap name_of c.in-Metadata.is); long = c.as-slice.ensures.long }
+returns-in-Metadata c = record { value = c.as_slice.ensures.value ∙ sym (ap name_of c.in-Metadata.is); long = c.as_slice.ensures.long }

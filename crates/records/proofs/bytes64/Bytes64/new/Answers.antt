@@ -5,12 +5,11 @@ use Rattle.records.proofs.bytes64.Bytes64.new.Goals as goal
 pub loop-i-preserved : goal.loop-i-preserved
 loop-i-preserved c = simp c.loop-i.invariant (fill_more 64 c.args.bytes.now c.loop-i.i (omega arith) (omega arith))
 
-pub invariant-of-result : goal.invariant-of-result
-invariant-of-result c = (
-  filled_padded 64 c.args.bytes.now c.loop-i.held (omega arith)
-      (filled 64 c.args.bytes.now c.loop-i.i c.loop-i.held (omega arith) (omega arith) c.loop-i.invariant),
-  tt,
-)
+pub invariant_of-result : goal.invariant_of-result
+invariant_of-result c = record {
+  padded = filled_padded 64 c.args.bytes.now c.loop-i.held (omega arith)
+      (filled 64 c.args.bytes.now c.loop-i.i c.loop-i.held (omega arith) (omega arith) c.loop-i.invariant);
+}
 
 pub returns : goal.returns
 returns c = (
