@@ -6,7 +6,7 @@ pub returns-in_default-first_byte : goal.returns-in_default-first_byte
 returns-in_default-first_byte c = refuses c.loop-left.invariant (search rules) c.in_default-first_byte.ensures
 
 pub loop-left-preserved : goal.loop-left-preserved
-loop-left-preserved c = again c.loop-left.invariant c.in-Some.b c.in-Some.more.now (search rules) c.in-Some.ensures c.in-ok-push.ensures.items
+loop-left-preserved c = again c.loop-left.invariant c.in-Some.b c.in-Some.more.now (search rules) c.in-Some.ensures c.in_ok-push.ensures.items
 
 pub returns : goal.returns
 returns c = ends c.loop-left.invariant (search rules)

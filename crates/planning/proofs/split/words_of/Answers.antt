@@ -13,7 +13,7 @@ pub loop-word-preserved : goal.loop-word-preserved
 loop-word-preserved c =
     let rest : List ℕ = split_whitespace_rest c.next.new.self in
     let first = first_of (split_whitespace_rest c.loop-word.word-iterator) c.in-Some.word.now rest c.in-Some.ensures.steps in
-    one_more c.loop-word.invariant c.in-Some.word {after = vec_items c.push.new.self} first c.if-is_comment.ensures c.in-ok-push.ensures.items
+    one_more c.loop-word.invariant c.in-Some.word {after = vec_items c.push.new.self} first c.if-is_comment.ensures c.in_ok-push.ensures.items
 
 pub returns : goal.returns
 returns c = no_more c.loop-word.invariant (inl c.in-None.ensures.steps.1)
