@@ -59,7 +59,7 @@ pub(crate) fn pick_random_available_index<H: Host>(
     but: Option<usize>,
 ) -> usize
     requires { ((1 ≤ n) × (n ≤ 256)) × (((j : ℕ) × (j < n) × (available marks.now.picked but j ≡ true))) }
-    ensures drawn { Drawn draws n marks.now.picked but host.old result host.new }
+    ensures drawn { Drawn H.draws n marks.now.picked but host.old result host.new }
     ensures within { result < n }
 {
     let mut last = 0;

@@ -28,7 +28,7 @@ fn goes_on(keys: &[KeyRecord], marks: &Marks, target: u64) -> bool
 // The place of the next picked key.
 fn pick_one<H: Host>(host: &mut H, keys: &[KeyRecord], marks: &Marks) -> usize
     requires { (length keys.now ≤ 256) × (2 ≤ length (unpicked marks.now.picked (entries_of keys.now))) }
-    ensures pick { (e : Entry) → e ≡ slice_index_or (entries_of keys.now) result e → Pick draws (entries_of keys.now) marks.now.picked host.old result e host.new }
+    ensures pick { (e : Entry) → e ≡ slice_index_or (entries_of keys.now) result e → Pick H.draws (entries_of keys.now) marks.now.picked host.old result e host.new }
     ensures within { result < length keys.now }
     ensures fresh { slice_index_or marks.now.picked result false ≡ false }
 {
@@ -40,7 +40,7 @@ fn pick_one<H: Host>(host: &mut H, keys: &[KeyRecord], marks: &Marks) -> usize
 
 // Picks keys until no more than the target remains, or fewer than two.
 pub fn pick_evict_targets<H: Host>(host: &mut H, index: &Index, target: u64, targets: &mut Targets)
-    ensures { Picks draws (tracked_in index.now) target host.old (entries_of targets.new.records.items) host.new }
+    ensures { Picks H.draws (tracked_in index.now) target host.old (entries_of targets.new.records.items) host.new }
 {
     let keys = index.records();
     let mut marks = Marks::none();

@@ -19,10 +19,10 @@ loop-i-preserved c =
     elim c.if-is_unpicked.branch [
       | then-is_unpicked w ↦
           let step = ap length (left_unpicked marks es i d m l (not-true _ (sym c.is_unpicked.ensures ∙ w.if-is_unpicked.true))) in
-          (omega (arith, w.count_is), omega (arith, w.count_is))
+          (omega (arith, w.count-is), omega (arith, w.count-is))
       | else-is_unpicked w ↦
           let step = ap length (left_picked marks es i d m l (not-false _ (sym c.is_unpicked.ensures ∙ w.if-is_unpicked.false))) in
-          (omega (arith, w.count_is), omega (arith, w.count_is))
+          (omega (arith, w.count-is), omega (arith, w.count-is))
     ]
 
 pub returns : goal.returns

@@ -3,7 +3,7 @@ use Rattle.std.proofs.lemmas.Bool.{cases_lt}
 use Rattle.picking.specs.Picks.{available}
 use Rattle.picking.proofs.Draws.{round_finds}
 use Rattle.picking.proofs.drawing.next_round.Goals as goal
-use Rattle.picking.proofs.drawing.next_round.Goals.{else-loop-steps-test, then-loop-steps-test+else-is_available+else·-steps-n}
+use Rattle.picking.proofs.drawing.next_round.Goals.{else-loop-steps-test, then-loop-steps-test+else-is_available+else-steps-n}
 
 pub unreachable-requires : goal.unreachable-requires
 unreachable-requires c =
@@ -12,7 +12,7 @@ unreachable-requires c =
       | else-loop-steps-test w ↦
           round_finds marks c.args.but c.args.last c.args.n c.requires.0.2 c.requires.1
           (λ k some within. c.loop-steps.invariant k some (let out = w.loop-steps-test in omega arith))
-      | then-loop-steps-test+else-is_available+else·-steps-n w ↦
+      | then-loop-steps-test+else-is_available+else-steps-n w ↦
           round_finds marks c.args.but c.args.last c.args.n c.requires.0.2 c.requires.1
           (λ k some within.
           ⊎_elim

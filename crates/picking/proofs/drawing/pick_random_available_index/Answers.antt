@@ -22,7 +22,7 @@ next_round-requires g c = ((c.requires.0.0, c.requires.0.1, c.loop-tried.invaria
 
 pub returns : goal.returns
 returns g c =
-    let all : c.loop-tried.-tried ≡ 64 = omega arith in
+    let all : c.loop-tried._tried ≡ 64 = omega arith in
     record {
       drawn =
           by_round

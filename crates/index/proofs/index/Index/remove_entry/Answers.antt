@@ -24,19 +24,12 @@ invariant_of-self c =
     let v = c.args.self.now.table.records in
     let gone = swapped_removes v.items c.take_out-gone.new.self.records.items c.take_out-gone.result c.in-Some.ensures.1 c.take_out-gone.ensures.value c.take_out-gone.ensures.items in
     let h = removed_sizes gone in
-    let s = c.args.self.now.sum in (
-      let n = c.args.self.now.few in omega arith,
-      (
-        let m = c.args.self.now.room in omega arith,
-        (
-          removed_once gone c.args.self.now.distinct,
-          (
-            omega arith,
-            tt,
-          ),
-        ),
-      ),
-    )
+    let s = c.args.self.now.sum in record {
+      few = (let n = c.args.self.now.few in omega arith);
+      room = (let m = c.args.self.now.room in omega arith);
+      distinct = removed_once gone c.args.self.now.distinct;
+      sum = omega arith;
+    }
 
 pub returns : goal.returns
 returns c =

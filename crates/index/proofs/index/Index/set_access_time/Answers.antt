@@ -13,19 +13,12 @@ at-requires c =
 pub invariant_of-self : goal.invariant_of-self
 invariant_of-self c =
     let now : c.touch.new.self.time ≡ c.args.time = search rules in
-    let touched = set_touches c.args.self.now.table.records.items c.at.result.now c.touch.new.self c.in-Some.ensures.1 c.at.ensures.value c.touch.ensures.key c.touch.ensures.size now in (
-      c.args.self.now.few,
-      (
-        c.args.self.now.room,
-        (
-          touched_once touched c.args.self.now.distinct,
-          (
-            c.args.self.now.sum ∙ sym (touched_sizes touched),
-            tt,
-          ),
-        ),
-      ),
-    )
+    let touched = set_touches c.args.self.now.table.records.items c.at.result.now c.touch.new.self c.in-Some.ensures.1 c.at.ensures.value c.touch.ensures.key c.touch.ensures.size now in record {
+      few = c.args.self.now.few;
+      room = c.args.self.now.room;
+      distinct = touched_once touched c.args.self.now.distinct;
+      sum = c.args.self.now.sum ∙ sym (touched_sizes touched);
+    }
 
 pub returns : goal.returns
 returns c =

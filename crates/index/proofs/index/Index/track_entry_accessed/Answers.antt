@@ -41,19 +41,12 @@ invariant_of-self c =
     let absent : tracks (key_of c.args.key) (tracked_in was) ≡ false = ap (λ (x : Index). tracks (key_of c.args.key) (tracked_in x)) refused.1 ∙ refused.0 in
     let appended = push_appends was.table.records.items c.push_reserved.new.self.items _ new c.push_reserved.ensures.items (cc) in
     let free = leb-false 256 was.table.records.len (sym c.if-is_full.ensures) in
-    let sizes-now = ap sizes appended ∙ appended_sizes (tracked_in was) new in (
-      omega arith,
-      (
-        let room = was.room in omega arith,
-        (
-          ap once appended ∙ appended_once (tracked_in was) new absent was.distinct,
-          (
-            let sum = was.sum in omega arith,
-            tt,
-          ),
-        ),
-      ),
-    )
+    let sizes-now = ap sizes appended ∙ appended_sizes (tracked_in was) new in record {
+      few = omega arith;
+      room = (let room = was.room in omega arith);
+      distinct = ap once appended ∙ appended_once (tracked_in was) new absent was.distinct;
+      sum = (let sum = was.sum in omega arith);
+    }
 
 pub returns : goal.returns
 returns c =
