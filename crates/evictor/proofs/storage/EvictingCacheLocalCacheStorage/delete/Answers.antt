@@ -5,7 +5,7 @@ use Rattle.evictor.proofs.storage.EvictingCacheLocalCacheStorage.delete.Goals as
 
 pub invariant_of-self : goal.invariant_of-self
 invariant_of-self g c =
-    (deletes_bound g.C.LocalCacheStorage.sense (state_of c.args.self.now.evictor) (state_of c.delete.new.self) _ c.delete.ensures c.args.self.now.bound, tt)
+    record { bound = deletes_bound g.C.LocalCacheStorage.sense (state_of c.args.self.now.evictor) (state_of c.delete.new.self) _ c.delete.ensures c.args.self.now.bound }
 
 pub returns : goal.returns
 returns g c =

@@ -5,7 +5,7 @@ use Rattle.evictor.proofs.storage.EvictingCacheLocalCacheStorage.read_part.Goals
 
 pub invariant_of-self : goal.invariant_of-self
 invariant_of-self g c =
-    (reads_bound g.C.LocalCacheStorage.sense g.H.Host.times (state_of c.args.self.now.evictor) (state_of c.read_part.new.self) _ _ c.read_part.ensures.state c.args.self.now.bound, tt)
+    record { bound = reads_bound g.C.LocalCacheStorage.sense g.H.Host.times (state_of c.args.self.now.evictor) (state_of c.read_part.new.self) _ _ c.read_part.ensures.state c.args.self.now.bound }
 
 pub returns : goal.returns
 returns g c = record {

@@ -6,11 +6,10 @@ use Rattle.evictor.proofs.storage.EvictingCacheLocalCacheStorage.save_part.Goals
 
 pub invariant_of-self : goal.invariant_of-self
 invariant_of-self g c =
-    let s = c.args.self.now.evictor in (
-      saves_bound g.C.LocalCacheStorage.sense g.C.ForgetfulCache.drops g.H.Host.draws g.H.Host.times (state_of s) (state_of c.save_part.new.self) _ _ _
-          (few_tracked s.index) c.save_part.ensures c.args.self.now.bound,
-      tt,
-    )
+    let s = c.args.self.now.evictor in record {
+      bound = saves_bound g.C.LocalCacheStorage.sense g.C.ForgetfulCache.drops g.H.Host.draws g.H.Host.times (state_of s) (state_of c.save_part.new.self) _ _ _
+          (few_tracked s.index) c.save_part.ensures c.args.self.now.bound;
+    }
 
 pub returns : goal.returns
 returns g c =
