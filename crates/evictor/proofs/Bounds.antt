@@ -1,19 +1,19 @@
 -- Totals and counts of tracked keys under the changes of an evicting cache.
-use Rattle.std.proofs.Common.{◌≡◌, ℕ, ◌+◌, ◌*◌, ◌/◌, ◌<◌, ◌≤◌, Bool, true, false, ◌⊎◌, List, [], ◌∷◌, ◌++◌, length, ℤ, Ok, Err, Result, sym, refl, ap, ◌∙◌, subst, inl, inr, ⊎_elim, div-mul-le_self, arith, length-append}
-use Rattle.std.proofs.lemmas.List.Sums.{sum_by_push, sum_by-append}
+use Rattle.std.proofs.Common.{◌≡◌, ℕ, ◌+◌, ◌*◌, ◌<◌, ◌≤◌, Bool, true, false, List, [], ◌∷◌, length, ℤ, Ok, Err, Result, sym, ap, ◌∙◌, subst, inl, inr, ⊎_elim, div-mul-le_self, arith, length-append}
+use Rattle.std.proofs.lemmas.List.Sums.{sum_by_push}
 use Rattle.std.proofs.ByRecursion.{has_append_left, has_push}
 use Rattle.std.specs.List.{ContainsAt as Has}
 use Rattle.faults.specs.declared.fault.Fault.{Fault}
 use Rattle.cache.specs.Keys.{Key}
 use Rattle.cache.specs.Caches.{CacheSense}
 use Rattle.cache.specs.Tracking.{Entry, sizes}
-use Rattle.index.specs.Table.{TrackedAt, Touched, Used, Removed, PathRemoved}
+use Rattle.index.specs.Table.{TrackedAt, Used}
 use Rattle.index.proofs.Changes.{touched_length, touched_sizes, appended_length}
 use Rattle.index.proofs.Removal.{removed_sizes, removed_length, removed_other}
 use Rattle.index.proofs.PathRemoval.{path_sizes, path_length}
-use Rattle.picking.specs.Picks.{Picks, target_of}
+use Rattle.picking.specs.Picks.{target_of}
 use Rattle.picking.proofs.Picked.{picked_sizes, picked_length}
-use Rattle.evictor.specs.Evicts.{State, over, Room, Follows, EvictingReads, not_tracked, not_answered, answered, Forgets, forgets_none, forgets_next, Evicts, within, beyond, EvictingSaves, table_full, refused_below, accepted, EvictingDeletes}
+use Rattle.evictor.specs.Evicts.{State, Room, EvictingReads, not_tracked, not_answered, answered, Forgets, forgets_none, forgets_next, Evicts, within, beyond, EvictingSaves, table_full, refused_below, accepted, EvictingDeletes}
 
 -- two or more keys are tracked only where their sizes are at most the maximum
 abbrev pub Bound : (es : List Entry) (maximum : ℕ) → Type 0

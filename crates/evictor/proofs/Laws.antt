@@ -1,18 +1,18 @@
 -- The evicting cache is a cache: what its calls do to what is held.
-use Rattle.std.proofs.Common.{◌≡◌, ℕ, ◌<◌, ◌≤◌, Bool, true, false, cond, ◌||◌, ◌⊎◌, List, [], ◌∷◌, ◌++◌, length, ℤ, Some, None, Ok, Err, Option, Result, sym, refl, ap, ◌∙◌, subst, inl, inr, ⊎_elim}
+use Rattle.std.proofs.Common.{◌≡◌, ℕ, Bool, true, false, cond, ◌||◌, ◌⊎◌, List, length, ℤ, Some, None, Ok, Err, Option, Result, sym, refl, ap, ◌∙◌, subst, inl, inr, ⊎_elim}
 use Rattle.std.proofs.lemmas.Bool.{cases_Bool, both_ways}
 use Rattle.faults.specs.declared.fault.Fault.{Fault}
-use Rattle.cache.specs.Keys.{Key, key_path, same_key}
-use Rattle.cache.specs.Caches.{CacheSense, Held, Kept, Saved, SaveStep, SameHeld, Deleted, Dropped}
-use Rattle.cache.specs.Tracking.{Entry, sizes}
+use Rattle.cache.specs.Keys.{Key, same_key}
+use Rattle.cache.specs.Caches.{CacheSense, Held, Kept, SaveStep, SameHeld, Deleted}
+use Rattle.cache.specs.Tracking.{Entry}
 use Rattle.cache.proofs.SameKey.{same_key_decides}
-use Rattle.index.specs.Table.{tracks, Touched, Used, Removed, PathRemoved}
+use Rattle.index.specs.Table.{tracks, Used, Removed}
 use Rattle.index.proofs.Changes.{touched_tracks, used_tracks}
 use Rattle.index.proofs.Counts.{same_key_false}
 use Rattle.index.proofs.Places.{tracks_at}
 use Rattle.index.proofs.PathRemoval.{path_gone, path_others}
 use Rattle.index.proofs.Removal.{removed_tracks}
-use Rattle.evictor.specs.Evicts.{State, over, Follows, held_tracked, held_of, EvictingReads, not_tracked, not_answered, answered, Forgets, forgets_none, forgets_next, Evicts, within, beyond, EvictingSaves, table_full, refused_below, accepted, EvictingDeletes}
+use Rattle.evictor.specs.Evicts.{State, held_of, EvictingReads, not_tracked, not_answered, answered, Forgets, forgets_none, forgets_next, Evicts, within, beyond, EvictingSaves, table_full, refused_below, accepted, EvictingDeletes}
 
 or_false : (x y : Bool) → y ≡ false → (x || y) ≡ x
 or_false true y f = refl

@@ -1,17 +1,14 @@
 -- Each call of the evictor is a call of a cache.
-use Rattle.std.proofs.Common.{◌≡◌, ℕ, ◌≤◌, Bool, List, ℤ, Result, sym, subst}
+use Rattle.std.proofs.Common.{ℕ, ◌≤◌, Bool, List, ℤ, Result, sym, subst}
 use Rattle.faults.specs.declared.fault.Fault.{Fault}
 use Rattle.cache.specs.Keys.{Key}
 use Rattle.cache.specs.Caches.{CacheSense, Reads, Saves, Deletes}
 use Rattle.cache.specs.Tracking.{Bounded}
-use Rattle.index.specs.Indexes.{tracked_in}
 use Rattle.evictor.specs.declared.evicting_cache.EvictingCache.{EvictingCache}
 use Rattle.evictor.specs.Evicts.{EvictingReads, EvictingSaves, EvictingDeletes}
 use Rattle.evictor.specs.Senses.{evicting_sense}
 use Rattle.evictor.specs.States.{state_of}
-use Rattle.evictor.proofs.Bounds.{Bound, reads_bound, saves_bound, deletes_bound}
 use Rattle.evictor.proofs.Laws.{reads_same, saves_step, deletes_path}
-use Rattle.evictor.proofs.Refusals.{few_tracked}
 
 module _ {C H : Type 0} (below : CacheSense C) (drops : C → Key → C → Type 0) (draws : H → ℕ → ℕ → H → Type 0) (times : H → ℤ → H → Type 0) where
   bounded : (t : EvictingCache C H) → Bounded ((evicting_sense below drops draws times).tracked t)

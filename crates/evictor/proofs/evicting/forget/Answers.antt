@@ -1,4 +1,4 @@
-use Rattle.std.proofs.Common.{◌≡◌, ◌<◌, ◌≤◌, length, take, sym, ap, ◌∙◌, subst, arith}
+use Rattle.std.proofs.Common.{◌≡◌, ◌<◌, length, take, subst}
 use Rattle.std.proofs.lemmas.List.{take_all, length-map}
 use Rattle.index.specs.Indexes.{tracked_in}
 use Rattle.index.specs.Table.{entry_of, entries_of}
