@@ -1,6 +1,6 @@
 /* Which bytes of an object a request asks for, and how they are cut into parts.
  *
- * Link libranges_c.a (built by `rt staticlib ranges_c`) and the toolchain's librattle_c.a.
+ * Link out/libranges_c.a, which `rt lib` builds in crates/ranges_c.
  *
  * Every call takes a lent byte slice, `out` and its length `out_len`. `out` is not NULL and points to
  * `out_len` bytes that nothing else reads or writes during the call. Results are 64-bit numbers, eight
