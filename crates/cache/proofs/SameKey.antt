@@ -1,5 +1,5 @@
 -- That `same_key` decides whether keys are equal.
-use Rattle.std.proofs.Common.{◌≡◌, ℕ, Bool, true, false, ◌&&◌, eqb, List, Decides, refl, ap, arith}
+use Rattle.std.proofs.Common.{◌≡◌, ℕ, eqb, List, Decides, ap, arith}
 use Rattle.std.specs.Str.{bytes_eq}
 use Rattle.std.proofs.lemmas.Slice.Eq.{bytes_eq-Decides}
 use Rattle.std.proofs.lemmas.Bool.{and_parts, and_from, eqb-true, eq-eqb, false≢true}

@@ -1,5 +1,5 @@
 -- What a cache holds values under: the head of a path, or one of its parts.
-use Rattle.std.specs.Prelude.{ℕ, Bool, true, false, ◌&&◌, List, ◌==◌}
+use Rattle.std.specs.Prelude.{ℕ, Bool, false, ◌&&◌, List, ◌==◌}
 use Rattle.std.specs.Str.{bytes_eq}
 use Rattle.records.specs.declared.path.Path.{Path}
 use Rattle.records.specs.Padded.{held}

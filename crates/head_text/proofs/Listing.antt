@@ -1,5 +1,5 @@
 -- Bytes one after the other.
-use Rattle.std.proofs.Common.{◌≡◌, ℕ, suc, ◌+◌, ◌<◌, ◌≤◌, List, [], ◌∷◌, ◌++◌, length, get_or, take, drop, sym, refl, ap, ◌∙◌, subst, append_assoc, arith, take-append-drop, length-take-le, take_all, take-suc}
+use Rattle.std.proofs.Common.{◌≡◌, ℕ, suc, ◌+◌, ◌<◌, ◌≤◌, List, [], ◌∷◌, ◌++◌, length, get_or, take, drop, sym, ap, ◌∙◌, subst, append_assoc, arith, take-append-drop, length-take-le, take_all, take-suc}
 use Rattle.head_text.specs.Bytes.{Counts, Countless, Lists, FirstCountless}
 use Rattle.head_text.specs.Drafts.{Word}
 

@@ -5,7 +5,7 @@ use Rattle.head_text.specs.declared.draft.Draft.{Draft}
 use Rattle.head_text.specs.declared.no_head.NoHead.{NoHead}
 use Rattle.head_text.specs.declared.no_head.NoHead.TheVariants as no_head
 use Rattle.head_text.specs.declared.no_head.Wrong.{Wrong}
-use Rattle.head_text.specs.Drafts.{Word, Blank, WordRead, Reads, DraftRead, WrongAt, HeadRead}
+use Rattle.head_text.specs.Drafts.{Word, Blank, WordRead, Reads, DraftRead, HeadRead}
 
 pub reads_none : (d : Draft) → Reads d [] d
 unfolding Reads

@@ -1,12 +1,12 @@
 -- What the words of a line say, one after the other.
-use Rattle.std.specs.Prelude.{◌≡◌, ℕ, ◌+◌, ◌<◌, ◌≤◌, ◌⊎◌, List, [], ◌∷◌, ◌++◌, length, take, Some, None, Ok, Err, codes, Option, Result, ◌≢◌, slice_index, slice_index_or}
+use Rattle.std.specs.Prelude.{◌≡◌, ℕ, ◌+◌, ◌<◌, ◌⊎◌, List, [], ◌∷◌, ◌++◌, length, take, Some, None, Ok, Err, codes, Option, Result, ◌≢◌, slice_index, slice_index_or}
 use Rattle.std.specs.Borrow.{Bor}
 use Rattle.std.specs.Option.{unwrap_or}
 use Rattle.records.specs.declared.attribute.AttributeEntry.{AttributeEntry}
 use Rattle.records.specs.declared.attributes.Attributes.{Attributes}
 use Rattle.records.specs.declared.head.Head.{Head}
 use Rattle.records.specs.declared.label.Label.{Label}
-use Rattle.records.specs.Limits.{SizeWithin, TimeWithin, HeadRefused, of_head}
+use Rattle.records.specs.Limits.{HeadRefused, of_head}
 use Rattle.records.specs.Padded.{labelled}
 use Rattle.head_text.specs.declared.draft.Draft.{Draft}
 use Rattle.head_text.specs.declared.no_head.NoHead.{NoHead}

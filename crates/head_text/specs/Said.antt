@@ -1,5 +1,5 @@
 -- What the text behind a `=` says, and the key before it.
-use Rattle.std.specs.Prelude.{◌≡◌, ℕ, ◌^◌, ◌<◌, ◌⊎◌, List, [], ◌∷◌, ◌++◌, length, Some, None, codes, Option, ◌≢◌}
+use Rattle.std.specs.Prelude.{◌≡◌, ℕ, ◌^◌, ◌<◌, ◌⊎◌, List, ◌++◌, length, Some, codes, ◌≢◌}
 use Rattle.std.specs.Str.Parse.{IsNumeral, digits_value as value, without_leading_plus}
 use Rattle.records.specs.declared.attribute.Attribute.{Attribute}
 use Rattle.records.specs.declared.attribute.Attribute.TheVariants.{Metadata}
@@ -11,7 +11,7 @@ use Rattle.records.specs.Limits.{KeyLong, of_head, invalid_head}
 use Rattle.records.specs.Names.{key_of, Named}
 use Rattle.records.specs.Padded.{held, labelled}
 use Rattle.head_text.specs.declared.no_head.Wrong.{Wrong}
-use Rattle.head_text.specs.declared.no_head.Wrong.TheVariants.{NoEquals, NotANumber, Twice, NoByte, Limit, NoMemory}
+use Rattle.head_text.specs.declared.no_head.Wrong.TheVariants.{NoByte, Limit, NoMemory}
 use Rattle.head_text.specs.Texts.{Spells}
 
 -- the text writes n in decimal digits, as Rust reads them: a plus sign may stand before them

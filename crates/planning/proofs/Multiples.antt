@@ -1,7 +1,7 @@
 -- A number is a multiple exactly if rounding down leaves it.
-use Rattle.std.proofs.Common.{◌≡◌, ℕ, ◌+◌, ◌<◌, ◌≤◌, Bool, true, false, eqb, sym, refl, ◌∙◌, arith}
+use Rattle.std.proofs.Common.{◌≡◌, ℕ, Bool, true, false, eqb, sym, refl, ◌∙◌, arith}
 use Rattle.std.proofs.lemmas.Bool.{eqb-true, eqb-false}
-use Rattle.ranges.specs.Rounding.{Multiple, Down}
+use Rattle.ranges.specs.Rounding.{Down}
 use Rattle.ranges.proofs.Rounds.{down_same}
 use Rattle.planning.specs.Planned.{At}
 

@@ -2,7 +2,6 @@
 use Rattle.std.specs.Prelude.{◌≡◌, ℕ, ◌^◌, ◌<◌, ◌⊎◌, List, [], ◌∷◌, Ok, Err, codes, Result, ◌≢◌}
 use Rattle.std.specs.Borrow.{Bor}
 use Rattle.std.specs.Str.Parse.{IsNumeral, digits_value, without_leading_plus}
-use Rattle.ranges.specs.Refusals.{of_part_size, invalid_part_size}
 use Rattle.ranges.specs.Rounding.{PartSized}
 use Rattle.ranges.specs.declared.get_range.GetRange.{GetRange}
 use Rattle.ranges.specs.declared.get_range.GetRange.TheVariants.{All, Bounded, Offset, Suffix}

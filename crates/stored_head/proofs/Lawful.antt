@@ -1,5 +1,5 @@
 -- The laws of stored forms.
-use Rattle.std.proofs.Common.{◌≡◌, ℕ, suc, ◌+◌, ◌*◌, ◌<◌, ◌≤◌, Bool, true, false, cond, ◌||◌, List, [], ◌∷◌, ◌++◌, length, take, drop, Some, None, Option, unwrap_or, sym, refl, ap, ◌∙◌, subst, append_assoc, append-nil, arith, lit<, lit≤}
+use Rattle.std.proofs.Common.{◌≡◌, ℕ, ◌≤◌, Bool, true, false, cond, ◌||◌, List, [], ◌∷◌, ◌++◌, length, take, Some, None, Option, unwrap_or, sym, refl, ap, ◌∙◌, subst, append_assoc, arith, lit<, lit≤}
 use Rattle.std.specs.Str.{bytes_eq}
 use Rattle.std.proofs.lemmas.Slice.Eq.{bytes_eq-Decides}
 use Rattle.std.proofs.lemmas.List.{length-take-le, length-map}
@@ -12,10 +12,10 @@ use Rattle.records.specs.Names.{name_of}
 use Rattle.records.specs.Padded.{Padded, held, labelled}
 use Rattle.records.specs.declared.head.Head.{Head}
 use Rattle.stored_head.specs.Forms.{label_form, LabelWithin}
-use Rattle.stored_head.specs.Heads.{HeadData, Named, data_of, pair, pairs, name_in, merged, rest_form, attributes_form, AttributesWithin, Within, Stored, NoHead}
+use Rattle.stored_head.specs.Heads.{HeadData, Named, data_of, pair, pairs, name_in, merged, rest_form, attributes_form, AttributesWithin, Within, Stored}
 use Rattle.stored_head.specs.Laws.{StoredLaws, StoredExample, Distinct, last_value}
 use Rattle.stored_head.specs.Loads.{Loaded, LoadAnswer}
-use Rattle.stored_head.specs.Numbers.{Number, single, further, Formed}
+use Rattle.stored_head.specs.Numbers.{Number, single, further}
 use Rattle.stored_head.proofs.Groups.{number_free}
 use Rattle.stored_head.proofs.Reading.{attributes_free}
 use Rattle.stored_head.proofs.Sequence.{label_free}

@@ -1,5 +1,5 @@
 -- Attributes by their names, of equal names the later.
-use Rattle.std.proofs.Common.{◌≡◌, ℕ, ◌+◌, ◌<◌, ◌≤◌, Bool, true, false, cond, ◌||◌, List, [], ◌∷◌, ◌++◌, length, get_or, take, drop, Ok, Err, Result, sym, refl, ap, ◌∙◌, subst, append_assoc, append-nil, arith, MatchResult}
+use Rattle.std.proofs.Common.{◌≡◌, ℕ, ◌+◌, ◌<◌, ◌≤◌, true, false, cond, ◌||◌, List, [], ◌∷◌, ◌++◌, length, get_or, drop, Ok, Err, Result, sym, ap, ◌∙◌, subst, append_assoc, append-nil, MatchResult}
 use Rattle.std.specs.Str.{bytes_eq}
 use Rattle.std.proofs.lemmas.List.{drop_more, drop_all, map-append}
 use Rattle.records.specs.declared.attribute.Attribute.{Attribute}
@@ -8,7 +8,7 @@ use Rattle.records.specs.declared.attribute.AttributeEntry.{AttributeEntry}
 use Rattle.records.specs.declared.attribute.Key.{Key}
 use Rattle.records.specs.Names.{key_of, name_of, Unknown, Named}
 use Rattle.stored_head.specs.Heads.{pair, pairs, name_in, merged}
-use Rattle.stored_head.specs.Loads.{Kind, Kinds, Renamed, Refilled}
+use Rattle.stored_head.specs.Loads.{Kind, Kinds}
 
 -- a refusal that cannot come
 pub ok_only : {T E : Type 0} (r : Result T E) (P : Type 0) (Q : E → Type 0) → MatchResult r (λ _. P) Q → ((e : E) → Q e → ⊥) → P

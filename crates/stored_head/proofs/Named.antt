@@ -1,10 +1,10 @@
 -- The attributes of a stored head.
-use Rattle.std.proofs.Common.{◌≡◌, ℕ, suc, ◌+◌, ◌-◌, ◌*◌, ◌<◌, ◌≤◌, List, [], ◌∷◌, ◌++◌, map, length, get_or, take, drop, Some, None, Option, sym, refl, ap, ◌∙◌, append_assoc, append-nil, arith, length-append}
+use Rattle.std.proofs.Common.{◌≡◌, ℕ, ◌+◌, ◌-◌, ◌<◌, ◌≤◌, List, [], ◌∷◌, ◌++◌, length, get_or, take, drop, Some, None, Option, sym, refl, ap, ◌∙◌, append_assoc, append-nil, arith, length-append}
 use Rattle.std.proofs.lemmas.List.{take_more, take_all, take-append-drop, map-append}
 use Rattle.records.specs.declared.attribute.AttributeEntry.{AttributeEntry}
 use Rattle.records.specs.declared.attributes.Attributes.{Attributes}
 use Rattle.records.specs.Limits.{KeyLong}
-use Rattle.stored_head.specs.Forms.{sized, Wrote, Stands, NoSized}
+use Rattle.stored_head.specs.Forms.{sized, Stands, NoSized}
 use Rattle.stored_head.specs.Heads.{Named, pair, pairs, attributes_form, AttributesWithin, AttributesStand, NoAttributes, AttributesRead}
 use Rattle.stored_head.proofs.Sequence.{stands_none, stands_then, sized_free}
 

@@ -1,7 +1,7 @@
 -- The stored form of a whole head.
-use Rattle.std.proofs.Common.{◌≡◌, ℕ, suc, ◌+◌, ◌*◌, ◌^◌, ◌<◌, ◌≤◌, List, [], ◌∷◌, ◌++◌, length, take, drop, set, sym, refl, ap, ◌∙◌, subst, add-one, arith, length-append}
+use Rattle.std.proofs.Common.{◌≡◌, ℕ, ◌+◌, ◌<◌, ◌≤◌, List, [], ◌∷◌, ◌++◌, length, set, sym, refl, ap, ◌∙◌, subst, add-one, arith, length-append}
 use Rattle.std.proofs.lemmas.List.{set_split}
-use Rattle.stored_head.specs.Forms.{label_form, Wrote, Stands}
+use Rattle.stored_head.specs.Forms.{label_form, Wrote}
 use Rattle.records.specs.declared.head.Head.{Head}
 use Rattle.stored_head.specs.Heads.{HeadData, data_of, attributes_form, rest_form, Stored, Saved, Long}
 use Rattle.stored_head.specs.Numbers.{Number, Formed, NumberWritten}

@@ -1,10 +1,8 @@
 -- The stored form of what a head holds. A length is at most 64, so that its number is one group, itself.
-use Rattle.std.specs.Prelude.{◌≡◌, ℕ, ◌+◌, ◌^◌, ◌<◌, ◌≤◌, ◌⊎◌, List, [], ◌∷◌, ◌++◌, length, take, drop, Some, None, Option, ◌≢◌, slice_index}
+use Rattle.std.specs.Prelude.{◌≡◌, ℕ, ◌+◌, ◌<◌, ◌≤◌, ◌⊎◌, List, [], ◌∷◌, ◌++◌, length, take, drop, Some, None, Option, ◌≢◌, slice_index}
 use Rattle.records.specs.declared.bytes64.Bytes64.{Bytes64}
 use Rattle.records.specs.declared.label.Label.{Label}
-use Rattle.records.specs.Limits.{KeyLong, SizeWithin, TimeWithin}
 use Rattle.records.specs.Padded.{held, labelled}
-use Rattle.stored_head.specs.Numbers.{Number}
 
 -- a key or a value: its length and its bytes
 abbrev pub sized : List ℕ → List ℕ

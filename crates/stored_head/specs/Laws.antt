@@ -1,5 +1,5 @@
 -- What holds of stored forms.
-use Rattle.std.specs.Prelude.{◌≡◌, ℕ, ◌≤◌, Bool, true, false, cond, List, [], ◌∷◌, ◌++◌, length, Some, None, Option}
+use Rattle.std.specs.Prelude.{◌≡◌, ℕ, false, cond, List, [], ◌∷◌, ◌++◌, Some, None, Option}
 use Rattle.std.specs.Str.{bytes_eq}
 use Rattle.records.specs.declared.head.Head.{Head}
 use Rattle.stored_head.specs.Heads.{HeadData, Named, data_of, name_in, merged, Within, Stored}

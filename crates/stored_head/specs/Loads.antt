@@ -4,8 +4,8 @@ use Rattle.records.specs.declared.attribute.Attribute.{Attribute}
 use Rattle.records.specs.declared.attribute.Attribute.TheVariants.{CacheControl, ContentDisposition, ContentEncoding, ContentLanguage, ContentType, Metadata}
 use Rattle.records.specs.declared.attribute.AttributeEntry.{AttributeEntry}
 use Rattle.records.specs.declared.head.Head.{Head}
-use Rattle.records.specs.Names.{key_of, name_of, Unknown}
-use Rattle.stored_head.specs.Heads.{HeadData, Named, data_of, pair, pairs, name_in, merged, Within, Stored, NoHead}
+use Rattle.records.specs.Names.{key_of, Unknown}
+use Rattle.stored_head.specs.Heads.{HeadData, data_of, pair, pairs, name_in, merged, Within, Stored, NoHead}
 
 -- an attribute is metadata only where its name is none of the five
 abbrev pub Kind : Attribute → Type 0

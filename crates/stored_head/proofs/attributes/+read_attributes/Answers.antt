@@ -1,4 +1,4 @@
-use Rattle.std.proofs.Common.{◌≡◌, ℕ, ◌-◌, List, length, take, sym, refl, ap, ◌∙◌, arith}
+use Rattle.std.proofs.Common.{◌≡◌, take, ap, ◌∙◌, arith}
 use Rattle.records.specs.Names.{name_of}
 use Rattle.records.specs.Padded.{held}
 use Rattle.stored_head.proofs.Named.{attributes_none, no_attributes_name, no_attributes_value, attributes_read_more}

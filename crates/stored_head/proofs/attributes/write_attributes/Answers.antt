@@ -1,4 +1,4 @@
-use Rattle.std.proofs.Common.{◌≡◌, ℕ, ◌+◌, ◌≤◌, List, ◌++◌, length, take, sym, ap, ◌∙◌, subst, arith}
+use Rattle.std.proofs.Common.{◌≡◌, ℕ, ◌+◌, List, ◌++◌, length, take, sym, ap, ◌∙◌, subst, arith}
 use Rattle.stored_head.specs.Forms.{Wrote, sized}
 use Rattle.stored_head.specs.Heads.{attributes_form, pair, pairs}
 use Rattle.stored_head.proofs.Named.{form_none, form_more, form_more_long, form_more_room, form_all}

@@ -1,7 +1,7 @@
 use Rattle.std.proofs.Common.{length, sym, ap, subst, arith}
 use Rattle.stored_head.specs.Heads.{attributes_form, pairs}
 use Rattle.stored_head.specs.Numbers.{Number}
-use Rattle.stored_head.proofs.Whole.{stored_count, stored_some}
+use Rattle.stored_head.proofs.Whole.{stored_some}
 use Rattle.stored_head.proofs.head.stored_len.Goals as goal
 
 pub returns : goal.returns

@@ -1,6 +1,6 @@
-use Rattle.std.proofs.Common.{◌≡◌, ℕ, ◌+◌, ◌≤◌, [], ◌∷◌, length, take, sym, ap, ◌∙◌, subst, arith}
+use Rattle.std.proofs.Common.{◌≡◌, [], ◌∷◌, length, take, sym, ap, ◌∙◌, subst, arith}
 use Rattle.std.proofs.lemmas.List.{length-map}
-use Rattle.stored_head.specs.Forms.{label_form, Wrote}
+use Rattle.stored_head.specs.Forms.{Wrote}
 use Rattle.stored_head.specs.Heads.{data_of, attributes_form, pair, pairs}
 use Rattle.stored_head.specs.Numbers.{NumberWritten}
 use Rattle.stored_head.proofs.Whole.{parts_room, first_room, saved_of}

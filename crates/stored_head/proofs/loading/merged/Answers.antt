@@ -1,7 +1,6 @@
-use Rattle.std.proofs.Common.{◌≡◌, ◌+◌, ◌-◌, ◌<◌, ◌≤◌, true, false, [], ◌∷◌, ◌++◌, length, take, drop, sym, ap, ◌∙◌, subst, arith}
-use Rattle.std.proofs.lemmas.List.{take_rest}
+use Rattle.std.proofs.Common.{◌≡◌, ◌+◌, ◌≤◌, ◌++◌, take, drop, sym, ap, ◌∙◌, subst, arith}
 use Rattle.records.specs.declared.attributes.Attributes.{Attributes}
-use Rattle.stored_head.specs.Heads.{pairs, merged, name_in, pair}
+use Rattle.stored_head.specs.Heads.{pairs, merged}
 use Rattle.stored_head.specs.Loads.{Kinds}
 use Rattle.stored_head.proofs.Merging.{ok_only, merged_drops, merged_keeps, merged_end, kinds_none, kinds_push}
 use Rattle.stored_head.proofs.loading.merged.Goals as goal

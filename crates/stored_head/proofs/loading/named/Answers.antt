@@ -1,7 +1,7 @@
 use Rattle.std.proofs.Common.{◌≡◌, sym, ap, ◌∙◌, subst}
 use Rattle.records.specs.Names.{name_of}
 use Rattle.records.specs.Padded.{held}
-use Rattle.stored_head.specs.Loads.{Kind, Renamed}
+use Rattle.stored_head.specs.Loads.{Kind}
 use Rattle.stored_head.proofs.Merging.{named_kind}
 use Rattle.stored_head.proofs.loading.named.Goals as goal
 use Rattle.stored_head.proofs.loading.named.Goals.{in-Ok, in-Err}

@@ -1,4 +1,4 @@
-use Rattle.std.proofs.Common.{◌+◌, length, ap, ◌∙◌, arith}
+use Rattle.std.proofs.Common.{length, ap, arith}
 use Rattle.stored_head.proofs.Groups.{number_single, number_split, below_less}
 use Rattle.stored_head.proofs.numbers.+number_len.Goals as goal
 

@@ -1,7 +1,7 @@
-use Rattle.std.proofs.Common.{◌≡◌, ℕ, ◌+◌, ◌<◌, ◌≤◌, List, ◌++◌, length, get_or, take, sym, refl, ap, ◌∙◌, subst, ⊎_elim, arith}
-use Rattle.stored_head.specs.Forms.{label_form, Stands}
-use Rattle.stored_head.specs.Heads.{Named, HeadData, data_of, pairs, attributes_form, Within, Stored, AttributesWithin, NoAttributes}
-use Rattle.stored_head.proofs.Reading.{size_not, size_is, time_not, time_is, tag_not, version_not, count_not_past, count_is, count_not, attributes_not, end_is, stored_made, told, data_same}
+use Rattle.std.proofs.Common.{◌≡◌, ℕ, ◌+◌, List, ◌++◌, length, get_or, take, sym, ap, ◌∙◌, subst, ⊎_elim, arith}
+use Rattle.stored_head.specs.Forms.{Stands}
+use Rattle.stored_head.specs.Heads.{HeadData, data_of, pairs, attributes_form, Within, Stored, AttributesWithin, NoAttributes}
+use Rattle.stored_head.proofs.Reading.{size_not, size_is, time_not, time_is, tag_not, version_not, count_not_past, count_not, attributes_not, end_is, stored_made, told, data_same}
 use Rattle.stored_head.proofs.local_cache_head.LocalCacheHead.read.Goals as goal
 
 pub returns-in_default : goal.returns-in_default
