@@ -1,6 +1,6 @@
 -- The table of tracked keys, and its changes.
 use Rattle.std.specs.Prelude.{◌≡◌, ℕ, ◌+◌, ◌-◌, ◌<◌, Bool, true, false, not, ◌&&◌, ◌||◌, ◌⊎◌, List, [], ◌∷◌, ◌++◌, map, length, take, ℤ, ◌≢◌, slice_index_or, slice_set}
-use Rattle.std.specs.List.{AllByRecursion as All}
+use Rattle.std.specs.List.{AllByRecursion}
 use Rattle.cache.specs.Keys.{Key, head_key, part_key, key_path, same_key, key_of}
 use Rattle.cache.specs.Tracking.{Entry}
 use Rattle.index.specs.declared.record.KeyRecord.{KeyRecord}
@@ -59,12 +59,12 @@ rank (part_key path number) = number + 1
 -- each comes before the next
 abbrev pub Upward : List Entry → Type 0
 Upward [] = Unit {0}
-Upward (e ∷ es) = All (λ f. rank e.key < rank f.key) es × Upward es
+Upward (e ∷ es) = AllByRecursion (λ f. rank e.key < rank f.key) es × Upward es
 
 -- every key of a path is removed, the head first and then the parts upward
 pub record PathRemoved (path : List ℕ) (es after : List Entry) : Type 0 where
   pub removed : List Entry
   pub runs : Removes removed es after
   pub upward : Upward removed
-  pub of_path : All (λ e. key_path e.key ≡ path) removed
-  pub none_left : All (λ e. key_path e.key ≢ path) after
+  pub of_path : AllByRecursion (λ e. key_path e.key ≡ path) removed
+  pub none_left : AllByRecursion (λ e. key_path e.key ≢ path) after
