@@ -1,5 +1,5 @@
 // What a cache holds values under.
-ghost use Rattle.std.specs.Prelude.{◌≡◌};
+ghost use Rattle.std.specs.Prelude.{◌≡◌, ◌↔◌, IsTrue};
 ghost use Rattle.cache.specs.Keys.{key_of, key_path, same_key, path_bytes};
 
 use ranges::PartID;
@@ -24,7 +24,8 @@ impl CacheKey {
 
     // Whether two keys are the same.
     pub fn same(&self, other: &CacheKey) -> bool
-        ensures { result ≡ same_key (key_of self.now) (key_of other.now) }
+        ensures decides { IsTrue result ↔ (key_of self.now ≡ key_of other.now) }
+        ensures value { result ≡ same_key (key_of self.now) (key_of other.now) }
     {
         match (self, other) {
             (CacheKey::Head(p), CacheKey::Head(q)) => same_bytes(p.as_slice(), q.as_slice()),

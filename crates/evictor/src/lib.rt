@@ -13,5 +13,7 @@ mod looking;
 mod reading;
 mod saving;
 mod storage;
+#[cfg(test)]
+mod tests;
 
 pub use evicting_cache::EvictingCache;

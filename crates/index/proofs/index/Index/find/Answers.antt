@@ -18,7 +18,7 @@ returns-then-same c =
       record {
         within = let n = length-map c.args.self.now.table.records.items entry_of in let v = c.deref-r-items.ensures.value in let w = ap length v in omega arith;
         is = subst P c.deref-r-items.ensures.value (entry_read rs c.loop-i.i r l c.r-item.is);
-        key = same_keys (key_of r.key) (key_of c.args.key.now) c.if-same.ensures;
+        key = same_keys (key_of r.key) (key_of c.args.key.now) c.if-same.ensures.value;
       },
     )
 
@@ -33,7 +33,7 @@ loop-i-preserved c =
     let within : c.loop-i.i < length es = let n = length-map c.args.self.now.table.records.items entry_of in let w = ap length v in omega arith in
     untracked_more (key_of c.args.key.now) es c.loop-i.i (entry_of r) within
     (subst P v (entry_read rs c.loop-i.i r l c.r-item.is))
-    c.if-same.ensures
+    c.if-same.ensures.value
     c.loop-i.invariant
 
 pub returns : goal.returns
