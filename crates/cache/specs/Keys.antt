@@ -2,7 +2,7 @@
 use Rattle.std.specs.Prelude.{ℕ, Bool, false, ◌&&◌, List, ◌==◌}
 use Rattle.std.specs.Str.{bytes_eq}
 use Rattle.records.specs.declared.path.Path.{Path}
-use Rattle.records.specs.Padded.{held}
+use Rattle.records.specs.Bytes.{bytes_of}
 use Rattle.cache.specs.declared.key.CacheKey.{CacheKey}
 use Rattle.cache.specs.declared.key.CacheKey.TheVariants.{Head, Part}
 
@@ -23,7 +23,7 @@ same_key (part_key p n) (part_key q m) = n == m && bytes_eq p q
 
 -- the bytes of a path of the code
 abbrev pub path_bytes : Path → List ℕ
-path_bytes p = held p.name.len p.name.bytes
+path_bytes p = bytes_of p.name
 
 -- a key of the code
 abbrev pub key_of : CacheKey → Key

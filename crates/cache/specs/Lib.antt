@@ -1,3 +1,4 @@
 pub mod Caches
 pub mod Keys
 pub mod Tracking
+pub mod SameKey

@@ -7,8 +7,10 @@
 
 mod forgetful;
 mod key;
+mod laws;
 mod storage;
 
 pub use forgetful::ForgetfulCache;
 pub use key::CacheKey;
+pub use laws::keys_are_compared_exactly;
 pub use storage::LocalCacheStorage;

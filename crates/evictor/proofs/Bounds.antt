@@ -1,5 +1,5 @@
 -- Totals and counts of tracked keys under the changes of an evicting cache.
-use Rattle.std.proofs.Common.{◌≡◌, ℕ, ◌+◌, ◌*◌, ◌<◌, ◌≤◌, Bool, true, false, List, [], ◌∷◌, length, ℤ, Ok, Err, Result, sym, ap, ◌∙◌, subst, inl, inr, ⊎_elim, div-mul-le_self, arith, length-append}
+use Rattle.std.proofs.Common.{◌≡◌, ℕ, ◌+◌, ◌*◌, ◌<◌, ◌≤◌, Bool, List, [], ◌∷◌, length, ℤ, Result, sym, ap, ◌∙◌, subst, inl, inr, ⊎_elim, div-mul-le_self, arith, length-append}
 use Rattle.std.proofs.lemmas.List.Sums.{sum_by_push}
 use Rattle.std.proofs.ByRecursion.{has_append_left, has_push}
 use Rattle.std.specs.List.{ContainsAt as Has}
@@ -65,24 +65,24 @@ module _ {C : Type 0} (b : CacheSense C) (drops : C → Key → C → Type 0) wh
         run.ended
 
     -- a save keeps the bound, and an accepted one sets it up
-    pub saves_bound : (s t : State C H) (k : Key) (v : List ℕ) (r : Result (Unit {0}) Fault) → length s.entries ≤ 256
+    pub saves_bound : {s t : State C H} {k : Key} {v : List ℕ} {r : Result (Unit {0}) Fault} → length s.entries ≤ 256
         → EvictingSaves b drops draws times s t k v r → Bound s.entries s.maximum → Bound t.entries t.maximum
-    saves_bound s t k v (Err e) few (table_full n f same) bound = subst (λ (x : State C H). Bound x.entries x.maximum) (sym same) bound
-    saves_bound s t k v (Err e) few (refused_below room r same) bound = subst (λ (x : State C H). Bound x.entries x.maximum) (sym same) bound
-    saves_bound s t k v (Ok done) few (accepted room r follows) bound =
+    saves_bound few (table_full n f same) bound = subst (λ (x : State C H). Bound x.entries x.maximum) (sym same) bound
+    saves_bound few (refused_below room r same) bound = subst (λ (x : State C H). Bound x.entries x.maximum) (sym same) bound
+    saves_bound {s} {t} {k} {v} few (accepted room r follows) bound =
         evicts_bound _ t (used_few k (length v) follows.time s.entries follows.entries room few follows.used) follows.evicts
 
 module _ {C H : Type 0} (b : CacheSense C) where
-  pub reads_bound : (times : H → ℤ → H → Type 0) (s t : State C H) (k : Key) (a : Bool)
+  pub reads_bound : (times : H → ℤ → H → Type 0) {s t : State C H} {k : Key} {a : Bool}
       → EvictingReads b times s t k a → Bound s.entries s.maximum → Bound t.entries t.maximum
-  reads_bound times s t k false (not_tracked n same) bound = subst (λ (x : State C H). Bound x.entries x.maximum) (sym same) bound
-  reads_bound times s t k false (not_answered y r same) bound = subst (λ (x : State C H). Bound x.entries x.maximum) (sym same) bound
-  reads_bound times s t k true (answered y r noted) bound =
+  reads_bound times (not_tracked n same) bound = subst (λ (x : State C H). Bound x.entries x.maximum) (sym same) bound
+  reads_bound times (not_answered y r same) bound = subst (λ (x : State C H). Bound x.entries x.maximum) (sym same) bound
+  reads_bound times (answered y r noted) bound =
       let sum = touched_sizes noted.touched in
       let count = touched_length noted.touched in
       λ many. omega (arith, sum, count, noted.maximum, bound (omega (arith, count)))
 
-  pub deletes_bound : (s t : State C H) (p : List ℕ) → EvictingDeletes b s t p → Bound s.entries s.maximum → Bound t.entries t.maximum
-  deletes_bound s t p d bound many =
+  pub deletes_bound : {s t : State C H} {p : List ℕ} → EvictingDeletes b s t p → Bound s.entries s.maximum → Bound t.entries t.maximum
+  deletes_bound d bound many =
       let less = path_sizes d.entries in
       let fewer = path_length d.entries in omega (arith, less, fewer, d.maximum, bound (omega (arith, fewer)))

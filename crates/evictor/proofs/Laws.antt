@@ -5,7 +5,7 @@ use Rattle.faults.specs.declared.fault.Fault.{Fault}
 use Rattle.cache.specs.Keys.{Key, same_key}
 use Rattle.cache.specs.Caches.{CacheSense, Held, Kept, SaveStep, SameHeld, Deleted}
 use Rattle.cache.specs.Tracking.{Entry}
-use Rattle.cache.proofs.SameKey.{same_key_decides}
+use Rattle.cache.specs.SameKey.{same_key_decides}
 use Rattle.index.specs.Table.{tracks, Used, Removed}
 use Rattle.index.proofs.Changes.{touched_tracks, used_tracks}
 use Rattle.index.proofs.Counts.{same_key_false}

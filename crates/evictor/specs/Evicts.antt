@@ -88,10 +88,14 @@ module _ {C : Type 0} (below : CacheSense C) (drops : C → Key → C → Type 0
       pub used : Used k size time s.entries entries
       pub evicts : Evicts (record { inner = s.inner; host = timed; entries = entries; maximum = s.maximum; evicted = s.evicted }) t
 
-    -- a save: a new key that finds 256 tracked is refused before anything goes below
-    pub data EvictingSaves (times : H → ℤ → H → Type 0) (s t : State C H) (k : Key) (value : List ℕ) : Result (Unit {0}) Fault → Type 0 where
-      table_full : tracks k s.entries ≡ false → length s.entries ≡ 256 → t ≡ s → EvictingSaves times s t k value (Err refused_save)
-      refused_below : {c : C} {e : Fault} → Room k s.entries → Saves below s.inner k value (Err e) c → t ≡ over s c
-          → EvictingSaves times s t k value (Err e)
-      accepted : {c : C} {done : Unit {0}} → Room k s.entries → Saves below s.inner k value (Ok done) c
-          → Follows times (over s c) t k (length value) → EvictingSaves times s t k value (Ok done)
+    module _ (times : H → ℤ → H → Type 0) where
+      -- a save of so many bytes, by a call of the cache below: a new key that finds 256 tracked is refused before anything goes below
+      pub data SavesBy (call : C → Result (Unit {0}) Fault → C → Type 0) (s t : State C H) (k : Key) (size : ℕ) : Result (Unit {0}) Fault → Type 0 where
+        table_full : tracks k s.entries ≡ false → length s.entries ≡ 256 → t ≡ s → SavesBy call s t k size (Err refused_save)
+        refused_below : {c : C} {e : Fault} → Room k s.entries → call s.inner (Err e) c → t ≡ over s c → SavesBy call s t k size (Err e)
+        accepted : {c : C} {done : Unit {0}} → Room k s.entries → call s.inner (Ok done) c → Follows times (over s c) t k size
+            → SavesBy call s t k size (Ok done)
+
+      -- a save of a value
+      abbrev pub EvictingSaves : (s t : State C H) (k : Key) (value : List ℕ) → Result (Unit {0}) Fault → Type 0
+      EvictingSaves s t k value r = SavesBy (λ c r d. Saves below c k value r d) s t k (length value) r

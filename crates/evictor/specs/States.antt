@@ -1,6 +1,4 @@
 -- What an evictor of the code stands for.
-use Rattle.std.specs.Prelude.{vec_items}
-use Rattle.index.specs.Indexes.{tracked_in}
 use Rattle.index.specs.Table.{entries_of}
 use Rattle.evictor.specs.declared.evictor.Evictor.{Evictor}
 use Rattle.evictor.specs.Evicts.{State}
@@ -9,7 +7,7 @@ abbrev pub state_of : {C H : Type 0} → Evictor C H → State C H
 state_of e = record {
   inner = e.inner;
   host = e.host;
-  entries = tracked_in e.index;
+  entries = e.index;
   maximum = e.maximum;
-  evicted = entries_of (vec_items e.targets.records);
+  evicted = entries_of e.targets;
 }

@@ -1,7 +1,6 @@
 // Giving up keys.
 ghost use Rattle.std.specs.Prelude.{◌≡◌, ℕ};
 ghost use Rattle.cache.specs.Keys.{key_of};
-ghost use Rattle.index.specs.Indexes.{tracked_in};
 ghost use Rattle.index.specs.Table.{entries_of};
 ghost use Rattle.evictor.specs.Evicts.{Forgets, Forgettable, Evicts, Follows, Room};
 ghost use Rattle.evictor.specs.States.{state_of};
@@ -14,8 +13,8 @@ use picking::{eviction_target, pick_evict_targets};
 
 // Drops the picked keys below and removes them, in their order.
 fn forget<C: ForgetfulCache>(inner: &mut C, index: &mut Index, picked: &[KeyRecord])
-    requires { Forgettable (tracked_in index.old) (entries_of picked.now) }
-    ensures { Forgets C.LocalCacheStorage.sense C.ForgetfulCache.drops inner.old (tracked_in index.old) (entries_of picked.now) inner.new (tracked_in index.new) }
+    requires { Forgettable index.old (entries_of picked.now) }
+    ensures { Forgets C.LocalCacheStorage.sense C.ForgetfulCache.drops inner.old index.old (entries_of picked.now) inner.new index.new }
 {
     for record in picked {
         inner.drop_entry(record.key);
@@ -39,11 +38,11 @@ impl<C: ForgetfulCache, H: Host> Evictor<C, H> {
 
     // Notes an accepted save of so many bytes, and evicts.
     pub(crate) fn note_save(&mut self, key: CacheKey, size: usize)
-        requires { Room (key_of key) (tracked_in self.old.index) }
+        requires { Room (key_of key) self.old.index }
         ensures { Follows C.LocalCacheStorage.sense C.ForgetfulCache.drops H.Host.draws H.Host.times (state_of self.old) (state_of self.new) (key_of key) size }
     {
         let time = self.host.time();
-        let _ = self.index.track_entry_accessed(key, size, time);
+        self.index.track_entry_accessed(key, size, time).unwrap();
         self.evict();
     }
 }

@@ -1,7 +1,6 @@
 // A cache that keeps a bound.
 ghost use Rattle.std.specs.Prelude.{◌<◌, ◌≤◌, length};
 ghost use Rattle.cache.specs.Tracking.{sizes};
-ghost use Rattle.index.specs.Indexes.{tracked_in};
 
 use crate::evictor::Evictor;
 
@@ -9,5 +8,5 @@ use crate::evictor::Evictor;
 #[derive(Drop)]
 pub struct EvictingCache<C, H> {
     pub(crate) evictor: Evictor<C, H>,
-    ghost bound: { 1 < length (tracked_in evictor.index) → sizes (tracked_in evictor.index) ≤ evictor.maximum },
+    ghost bound: { 1 < length evictor.index → sizes evictor.index ≤ evictor.maximum },
 }

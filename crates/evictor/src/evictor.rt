@@ -2,7 +2,8 @@
 use index::Index;
 use picking::Targets;
 
-// A cache below, a host, what is tracked and what it may come to.
+// A cache below, a host, what is tracked and what it may come to. Its contracts name the four ghost members of the
+// two bounds each: a record of them would have to be filled from the same four every time.
 #[derive(Drop)]
 pub struct Evictor<C, H> {
     pub(crate) inner: C,

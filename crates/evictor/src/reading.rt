@@ -2,7 +2,6 @@
 ghost use Rattle.std.specs.Prelude.{◌≡◌, ℕ, true, is_some};
 ghost use Rattle.cache.specs.Keys.{key_of, head_key, part_key, path_bytes};
 ghost use Rattle.cache.specs.Caches.{HeadRead, PartRead};
-ghost use Rattle.index.specs.Indexes.{tracked_in};
 ghost use Rattle.index.specs.Table.{tracks};
 ghost use Rattle.evictor.specs.Evicts.{EvictingReads, Noted, held_of};
 ghost use Rattle.evictor.specs.States.{state_of};
@@ -13,10 +12,12 @@ use hosts::Host;
 use ranges::Piece;
 use records::{Head, Path};
 
+// The two reads are not one around a closure, as the saves are: after a call of a closure that captures `out`,
+// nothing is known of `out`.
 impl<C: ForgetfulCache, H: Host> Evictor<C, H> {
     // Sets the access time of a tracked key to the host's time.
     fn note_read(&mut self, key: &CacheKey)
-        requires { tracks (key_of key.now) (tracked_in self.old.index) ≡ true }
+        requires { tracks (key_of key.now) self.old.index ≡ true }
         ensures { Noted H.Host.times (state_of self.old) (state_of self.new) (key_of key.now) }
     {
         let time = self.host.time();
@@ -31,9 +32,7 @@ impl<C: ForgetfulCache, H: Host> Evictor<C, H> {
         if !self.index.is_tracked(&key) {
             return None;
         }
-        let Some(head) = self.inner.read_head(path) else {
-            return None;
-        };
+        let head = self.inner.read_head(path)?;
         self.note_read(&key);
         Some(head)
     }
@@ -46,9 +45,7 @@ impl<C: ForgetfulCache, H: Host> Evictor<C, H> {
         if !self.index.is_tracked(&key) {
             return None;
         }
-        let Some(count) = self.inner.read_part(path, piece, out) else {
-            return None;
-        };
+        let count = self.inner.read_part(path, piece, out)?;
         self.note_read(&key);
         Some(count)
     }

@@ -6,7 +6,7 @@ use ranges::{AlignOverflow, InvalidCachePartSize, InvalidGetRange};
 use records::{BufferTooShort, InvalidHead, InvalidPath};
 
 // How a store failed.
-#[derive(Clone, Copy)]
+#[derive(Clone, Copy, Debug, PartialEq, Eq)]
 pub enum StoreFailure {
     // it has no room
     Full,
@@ -15,7 +15,7 @@ pub enum StoreFailure {
 }
 
 // The thirteen causes, in the order of their numbers.
-#[derive(Clone, Copy)]
+#[derive(Clone, Copy, Debug, PartialEq, Eq)]
 pub enum Cause {
     BadPartSize(InvalidCachePartSize),
     BadPath(InvalidPath),
@@ -35,7 +35,7 @@ pub enum Cause {
 }
 
 impl Cause {
-    // Its number in the closed list.
+    // Its number in the closed list: no `u8` of the enum, since most causes carry values.
     pub fn number(&self) -> u8
         ensures { result ≡ (refusal_of self.now).number }
     {

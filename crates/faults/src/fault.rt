@@ -4,7 +4,7 @@ ghost use Rattle.std.specs.Prelude.{◌≡◌, ◌+◌, ◌-◌, ◌^◌, min};
 use crate::cause::Cause;
 
 // What a refused call answers.
-#[derive(Clone, Copy)]
+#[derive(Clone, Copy, Debug, PartialEq, Eq)]
 pub struct Fault {
     pub cause: Cause,
     // how many cached layers it came up through
@@ -24,8 +24,8 @@ impl Fault {
         ensures { (result.cause ≡ self.cause) × (result.layers ≡ min (self.layers + 1) (2 ^ 64 - 1)) }
     {
         Fault {
-            cause: self.cause,
             layers: self.layers.saturating_add(1),
+            ..self
         }
     }
 }

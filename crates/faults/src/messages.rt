@@ -1,6 +1,7 @@
 // What a person reads of a refusal.
 use crate::cause::{Cause, StoreFailure};
 use crate::fault::Fault;
+use std::error::Error;
 use std::fmt;
 
 impl fmt::Display for Cause {
@@ -29,9 +30,16 @@ impl fmt::Display for Cause {
 
 impl fmt::Display for Fault {
     fn fmt<W: fmt::Write>(&self, f: &mut fmt::Formatter<W>) -> fmt::Result {
-        let number = self.cause.number();
-        let cause = &self.cause;
-        let layers = self.layers;
-        write!(f, "{cause} (refusal {number}, layers passed: {layers})")
+        write!(
+            f,
+            "{} (refusal {}, layers passed: {})",
+            self.cause,
+            self.cause.number(),
+            self.layers
+        )
     }
 }
+
+impl Error for Cause {}
+
+impl Error for Fault {}

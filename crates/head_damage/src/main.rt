@@ -5,34 +5,25 @@
 // bytes.
 #![tactic(auto)]
 
+mod count;
 mod damage;
 mod tries;
 
 use damage::{changed, cut_short};
 use head_text::{read_bytes, says_nothing};
+use lines::for_each_line;
 use std::io;
-use std::io::{BufRead, BufReader};
-use std::str::from_utf8;
-use tries::Count;
-
-fn show(rt: &HostRuntime, name: &str, count: &Count) -> io::Result<()> {
-    let forms = count.forms;
-    let loads = count.loads;
-    let others = count.others;
-    let no_heads = count.no_heads;
-    println!(rt;
-        "    {name:<10} {forms} forms: {loads} load, {others} of these are saved as other bytes, {no_heads} are no head"
-    )
-}
+use std::io::BufReader;
+use std::str::Utf8Error;
 
 fn answer_bytes(rt: &HostRuntime, number: u64, bytes: &mut [u8]) -> io::Result<()> {
     let len = bytes.len();
     println!(rt; "line {number}: {len} bytes")?;
     let short = cut_short(bytes);
-    show(rt, "cut short", &short)?;
+    println!(rt; "    cut short  {short}")?;
     let other = changed(bytes);
-    show(rt, "changed", &other)?;
-    let astray = short.astray.saturating_add(other.astray);
+    println!(rt; "    changed    {other}")?;
+    let astray = short.astray().saturating_add(other.astray());
     if astray == 0 {
         println!(rt; "    saved again, every one of them loads as the same bytes\n")
     } else {
@@ -40,8 +31,11 @@ fn answer_bytes(rt: &HostRuntime, number: u64, bytes: &mut [u8]) -> io::Result<(
     }
 }
 
-fn answer_line(rt: &HostRuntime, number: u64, line: &str) -> io::Result<()> {
-    let words: Vec<&str> = line.split_whitespace().collect(rt.alloc())?;
+fn answer(rt: &HostRuntime, number: u64, line: Result<&str, Utf8Error>) -> io::Result<()> {
+    let Ok(text) = line else {
+        return println!(rt; "line {number}: no text in UTF-8\n");
+    };
+    let words: Vec<&str> = text.split_whitespace().collect(rt.alloc())?;
     if says_nothing(words.as_slice()) {
         return Ok(());
     }
@@ -54,24 +48,8 @@ fn answer_line(rt: &HostRuntime, number: u64, line: &str) -> io::Result<()> {
     }
 }
 
-fn answer_all(rt: &HostRuntime) -> io::Result<()> {
-    let mut number: u64 = 0;
-    for line in BufReader::new(rt.alloc(), rt.stdin())?.split(rt.alloc(), b'\n') {
-        let bytes = line?;
-        number = number.saturating_add(1);
-        match from_utf8(bytes.as_slice()) {
-            Ok(text) => answer_line(rt, number, text)?,
-            Err(_) => println!(rt; "line {number}: no text in UTF-8\n")?,
-        }
-    }
-    Ok(())
-}
-
 fn main(rt: HostRuntime) -> anyhow::Result<()> {
-    run(&rt)
-}
-
-fn run(rt: &HostRuntime) -> anyhow::Result<()> {
-    answer_all(rt)?;
+    let input = BufReader::new(rt.alloc(), rt.stdin())?;
+    for_each_line(rt.alloc(), input, |number, line| answer(&rt, number, line))?;
     Ok(())
 }

@@ -1,6 +1,7 @@
 -- What a text writes, byte by byte.
-use Rattle.std.proofs.Common.{◌≡◌, ℕ, ◌-◌, ◌<◌, ◌≤◌, List, [], ◌∷◌, ◌++◌, length, get_or, take, drop, sym, refl, ap, ◌∙◌, subst, inl, inr, append_assoc, append-nil, arith}
-use Rattle.std.proofs.lemmas.List.{take_all}
+use Rattle.std.proofs.Common.{◌≡◌, ℕ, ◌-◌, ◌<◌, ◌≤◌, List, [], ◌∷◌, ◌++◌, length, get_or, take, drop, sym, ap, ◌∙◌, subst, inl, inr, append_assoc, append-nil, arith}
+use Rattle.std.proofs.lemmas.List.{nil_from_length, take_all}
+use Rattle.std.proofs.lemmas.Slice.{first_rest}
 use Rattle.head_text.specs.Texts.{NoDigit, Hex, NoHex, First, NoFirst, Spells}
 
 pub no_upper : (high low : ℕ) → NoDigit high → NoHex high low
@@ -10,10 +11,6 @@ pub no_lower : (high low : ℕ) → NoDigit low → NoHex high low
 no_lower high low n = record { never = λ b h. n.never h.lower h.lower_is }
 
 -- a slice from its first bytes on
-pub from_one : (xs : List ℕ) → 1 ≤ length xs → xs ≡ get_or xs 0 0 ∷ take (length xs - 1) (drop 1 xs)
-from_one [] h = absurd (omega arith)
-from_one (x ∷ xs) h = ap (λ (l : List ℕ). x ∷ l) (sym (take_all (length (x ∷ xs) - 1) xs (omega arith)))
-
 pub from_two : (xs : List ℕ) → 2 ≤ length xs → xs ≡ get_or xs 0 0 ∷ get_or xs 1 0 ∷ take (length xs - 2) (drop 2 xs)
 from_two [] h = absurd (omega arith)
 from_two (x ∷ []) h = absurd (omega arith)
@@ -70,10 +67,6 @@ behind_first text b rest [] f s = absurd (first_some text b rest f s)
 behind_first text b rest (a ∷ more) f s =
     (more, subst (λ (t : List ℕ). Spells t more) (first_one text a b s.0 rest s.1 f) s.2)
 
-empty : (xs : List ℕ) → length xs < 1 → xs ≡ []
-empty [] h = refl
-empty (x ∷ xs) h = absurd (omega arith)
-
 -- the loop's invariant: `seen` is what the text writes before `left`
 pub record Sofar (text left seen : List ℕ) : Type 0 where
   pub ahead : (bytes : List ℕ) → Spells left bytes → Spells text (seen ++ bytes)
@@ -94,10 +87,10 @@ module _ {text left seen : List ℕ} (old : Sofar text left seen) where
 
   pub ends : length left < 1 → Spells text seen
   unfolding Spells
-  ends h = subst (λ (l : List ℕ). Spells text l) (append-nil seen) (old.ahead [] (empty left h))
+  ends h = subst (λ (l : List ℕ). Spells text l) (append-nil seen) (old.ahead [] (nil_from_length left (omega arith)))
 
   pub again : {after : List ℕ} (b : ℕ) (rest : List ℕ) → 1 ≤ length left → First (get_or left 0 0 ∷ take (length left - 1) (drop 1 left)) b rest → after ≡ seen ++ (b ∷ []) → Sofar text rest after
-  again b rest h f e = one_more b rest (subst (λ (l : List ℕ). First l b rest) (sym (from_one left h)) f) e
+  again b rest h f e = one_more b rest (subst (λ (l : List ℕ). First l b rest) (sym (first_rest left 0 h)) f) e
 
   spells_none : (bytes : List ℕ) → NoFirst left → 1 ≤ length left → Spells left bytes → ⊥
   unfolding Spells
@@ -106,4 +99,4 @@ module _ {text left seen : List ℕ} (old : Sofar text left seen) where
 
   pub refuses : 1 ≤ length left → NoFirst (get_or left 0 0 ∷ take (length left - 1) (drop 1 left)) → (bytes : List ℕ) → Spells text bytes → ⊥
   refuses h n bytes s =
-      spells_none (old.back bytes s).0 (subst (λ (l : List ℕ). NoFirst l) (sym (from_one left h)) n) h (old.back bytes s).1
+      spells_none (old.back bytes s).0 (subst (λ (l : List ℕ). NoFirst l) (sym (first_rest left 0 h)) n) h (old.back bytes s).1

@@ -1,5 +1,5 @@
 -- What the words of a line say, one after the other.
-use Rattle.std.specs.Prelude.{◌≡◌, ℕ, ◌+◌, ◌<◌, ◌⊎◌, List, [], ◌∷◌, ◌++◌, length, take, Some, None, Ok, Err, codes, Option, Result, ◌≢◌, slice_index, slice_index_or}
+use Rattle.std.specs.Prelude.{◌≡◌, ℕ, ◌+◌, ◌<◌, ◌⊎◌, List, [], ◌∷◌, ◌++◌, length, Some, None, Ok, Err, codes, Option, Result, ◌≢◌, slice_index}
 use Rattle.std.specs.Borrow.{Bor}
 use Rattle.std.specs.Option.{unwrap_or}
 use Rattle.records.specs.declared.attribute.AttributeEntry.{AttributeEntry}
@@ -7,13 +7,14 @@ use Rattle.records.specs.declared.attributes.Attributes.{Attributes}
 use Rattle.records.specs.declared.head.Head.{Head}
 use Rattle.records.specs.declared.label.Label.{Label}
 use Rattle.records.specs.Limits.{HeadRefused, of_head}
-use Rattle.records.specs.Padded.{labelled}
+use Rattle.records.specs.Bytes.{label_of, entries_of}
+use Rattle.lines.specs.Words.{Hashed, Plain, Number, NoNumber}
 use Rattle.head_text.specs.declared.draft.Draft.{Draft}
 use Rattle.head_text.specs.declared.no_head.NoHead.{NoHead}
 use Rattle.head_text.specs.declared.no_head.NoHead.TheVariants as no_head
 use Rattle.head_text.specs.declared.no_head.Wrong.{Wrong}
 use Rattle.head_text.specs.declared.no_head.Wrong.TheVariants.{NoEquals, NotANumber, Twice}
-use Rattle.head_text.specs.Said.{Numbered, Unnumbered, Past, Labels, Oversized, Enters, Unentered}
+use Rattle.head_text.specs.Said.{Past, Labels, Oversized, Enters, Unentered}
 
 -- a word: its bytes are its `now`
 abbrev pub Word : Type 0
@@ -35,12 +36,6 @@ with_version d l = record { size = d.size; time = d.time; e_tag = d.e_tag; versi
 abbrev pub with_attributes : Draft → Attributes → Draft
 with_attributes d es = record { size = d.size; time = d.time; e_tag = d.e_tag; version = d.version; attributes = es }
 
-abbrev pub label_of : Label → Option (List ℕ)
-label_of l = labelled l.len l.bytes
-
-abbrev pub entries_of : Attributes → List AttributeEntry
-entries_of es = take es.len es.entries
-
 -- nothing is said
 pub record Blank (d : Draft) : Type 0 where
   pub size : d.size ≡ None
@@ -51,8 +46,8 @@ pub record Blank (d : Draft) : Type 0 where
 
 -- a number is said once
 abbrev pub NumberSaid : Option ℕ → (text : List ℕ) → Result ℕ Wrong → Type 0
-NumberSaid None text (Ok n) = Numbered text n
-NumberSaid None text (Err e) = (e ≡ NotANumber) × Unnumbered text
+NumberSaid None text (Ok n) = Number text n
+NumberSaid None text (Err e) = (e ≡ NotANumber) × NoNumber text
 NumberSaid (Some m) text (Ok n) = ⊥
 NumberSaid (Some m) text (Err e) = e ≡ Twice
 
@@ -132,15 +127,6 @@ pub record HeadRead (ws : List Word) (r : Result Head NoHead) : Type 0 where
   pub first : Draft
   pub blank : Blank first
   pub reads : ((n : ℕ) × (e : Wrong) × WrongAt first ws n e × (r ≡ Err (no_head.Word n e))) ⊎ ((d : Draft) × Reads first ws d × DraftRead d r)
-
--- a word begins with `#`
-pub record Hashed (w : List ℕ) : Type 0 where
-  pub some : 0 < length w
-  pub first : slice_index_or w 0 0 ≡ 35
-
--- it does not
-pub record Plain (w : List ℕ) : Type 0 where
-  pub first : 0 < length w → slice_index w 0 ≢ 35
 
 -- no words, or a comment
 abbrev pub Silent : List Word → Type 0

@@ -1,6 +1,5 @@
 -- What the text behind a `=` says, and the key before it.
-use Rattle.std.specs.Prelude.{◌≡◌, ℕ, ◌^◌, ◌<◌, ◌⊎◌, List, ◌++◌, length, Some, codes, ◌≢◌}
-use Rattle.std.specs.Str.Parse.{IsNumeral, digits_value as value, without_leading_plus}
+use Rattle.std.specs.Prelude.{◌≡◌, ℕ, ◌<◌, ◌⊎◌, List, ◌++◌, length, Some, codes, ◌≢◌}
 use Rattle.records.specs.declared.attribute.Attribute.{Attribute}
 use Rattle.records.specs.declared.attribute.Attribute.TheVariants.{Metadata}
 use Rattle.records.specs.declared.attribute.AttributeEntry.{AttributeEntry}
@@ -8,21 +7,11 @@ use Rattle.records.specs.declared.attribute.Key.{Key}
 use Rattle.records.specs.declared.label.Label.{Label}
 use Rattle.records.specs.declared.refused.InvalidHead.{InvalidHead}
 use Rattle.records.specs.Limits.{KeyLong, of_head, invalid_head}
-use Rattle.records.specs.Names.{key_of, Named}
-use Rattle.records.specs.Padded.{held, labelled}
+use Rattle.records.specs.Names.{Named}
+use Rattle.records.specs.Bytes.{bytes_of, label_of}
 use Rattle.head_text.specs.declared.no_head.Wrong.{Wrong}
 use Rattle.head_text.specs.declared.no_head.Wrong.TheVariants.{NoByte, Limit, NoMemory}
 use Rattle.head_text.specs.Texts.{Spells}
-
--- the text writes n in decimal digits, as Rust reads them: a plus sign may stand before them
-pub record Numbered (text : List ℕ) (n : ℕ) : Type 0 where
-  pub digits : IsNumeral 10 (without_leading_plus text)
-  pub is : n ≡ value 10 (without_leading_plus text)
-  pub fits : n < 2 ^ 64
-
--- the text writes no number of 64 bits
-pub record Unnumbered (text : List ℕ) : Type 0 where
-  pub never : (n : ℕ) → Numbered text n → ⊥
 
 -- refusal 3 with this reason and this number
 pub record Past (reason n : ℕ) (e : Wrong) : Type 0 where
@@ -42,7 +31,7 @@ pub record Oversized (reason : ℕ) (text : List ℕ) (e : Wrong) : Type 0 where
 pub record Labels (text : List ℕ) (l : Label) : Type 0 where
   pub bytes : List ℕ
   pub spelled : Spells text bytes
-  pub is : labelled l.len l.bytes ≡ Some bytes
+  pub is : label_of l ≡ Some bytes
 
 -- the text writes no bytes, or none that are a key
 pub record Unkeyed (text : List ℕ) (e : Wrong) : Type 0 where
@@ -54,8 +43,8 @@ pub record Unmarked (name : List ℕ) : Type 0 where
 
 -- metadata behind `metadata:`, and else what the key names
 pub record Means (name : List ℕ) (a : Attribute) : Type 0 where
-  pub reads : ((own : List ℕ) × (k : Key) × (name ≡ codes "metadata:" ++ own) × Spells own (key_of k) × (a ≡ Metadata k))
-      ⊎ ((k : Key) × Unmarked name × Spells name (key_of k) × Named k a)
+  pub reads : ((own : List ℕ) × (k : Key) × (name ≡ codes "metadata:" ++ own) × Spells own (bytes_of k.name) × (a ≡ Metadata k))
+      ⊎ ((k : Key) × Unmarked name × Spells name (bytes_of k.name) × Named k a)
 
 pub record Meaningless (name : List ℕ) (e : Wrong) : Type 0 where
   pub reads : ((own : List ℕ) × (name ≡ codes "metadata:" ++ own) × Unkeyed own e) ⊎ (Unmarked name × Unkeyed name e)
@@ -63,7 +52,7 @@ pub record Meaningless (name : List ℕ) (e : Wrong) : Type 0 where
 -- `NAME=TEXT` is this attribute
 pub record Enters (name text : List ℕ) (x : AttributeEntry) : Type 0 where
   pub attribute : Means name x.attribute
-  pub value : Spells text (held x.value.len x.value.bytes)
+  pub value : Spells text (bytes_of x.value)
 
 -- it is none, by its name or else by its text
 pub record Unentered (name text : List ℕ) (e : Wrong) : Type 0 where

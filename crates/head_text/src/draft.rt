@@ -1,13 +1,15 @@
 // What the words of a line have said so far.
-ghost use Rattle.std.specs.Prelude.{◌≡◌};
-ghost use Rattle.head_text.specs.Drafts.{label_of, with_size, with_time, with_e_tag, with_version, with_attributes, Blank, NumberRead, LabelRead, EntryRead, NamedRead, WordRead, DraftRead};
+ghost use Rattle.records.specs.Bytes.{label_of};
+ghost use Rattle.records.specs.Limits.{label_reason};
+ghost use Rattle.head_text.specs.Drafts.{Blank, NumberRead, LabelRead, EntryRead, NamedRead, WordRead, DraftRead};
 
 use crate::no_head::{NoHead, Wrong};
 use crate::said;
-use records::{Attributes, Head, Label};
+use lines::number;
+use records::{Attributes, Head, Label, LabelKind};
 use std::alloc::Global;
 
-#[derive(Clone, Copy)]
+#[derive(Clone, Copy, Debug)]
 pub(crate) struct Draft {
     size: Option<u64>,
     time: Option<u64>,
@@ -20,48 +22,30 @@ pub(crate) struct Draft {
 fn one_number(known: Option<u64>, text: &str) -> Result<u64, Wrong>
     ensures { NumberRead known text.now result }
 {
-    if let Some(_) = known {
+    if known.is_some() {
         return Err(Wrong::Twice);
     }
-    match said::number(text) {
-        Some(n) => Ok(n),
-        None => Err(Wrong::NotANumber),
-    }
+    number(text).ok_or(Wrong::NotANumber)
 }
 
-// An e_tag, unless one is known.
-fn one_e_tag(known: &Label, heap: Global, text: &str) -> Result<Label, Wrong>
-    ensures { LabelRead 3 (label_of known.now) text.now result }
+// An e_tag or a version, unless one is known.
+fn one_label(kind: LabelKind, known: &Label, heap: Global, text: &str) -> Result<Label, Wrong>
+    ensures { LabelRead (label_reason kind) (label_of known.now) text.now result }
 {
-    match known.get() {
-        Some(_) => Err(Wrong::Twice),
-        None => said::e_tag(heap, text),
+    if known.get().is_some() {
+        return Err(Wrong::Twice);
     }
-}
-
-// A version, unless one is known.
-fn one_version(known: &Label, heap: Global, text: &str) -> Result<Label, Wrong>
-    ensures { LabelRead 4 (label_of known.now) text.now result }
-{
-    match known.get() {
-        Some(_) => Err(Wrong::Twice),
-        None => said::version(heap, text),
-    }
+    said::label(kind, heap, text)
 }
 
 // One more attribute behind those that are known.
 fn one_more(known: Attributes, heap: Global, name: &str, text: &str) -> Result<Attributes, Wrong>
     ensures { EntryRead known name.now text.now result }
 {
-    let entry = match said::entry(heap, name, text) {
-        Err(wrong) => return Err(wrong),
-        Ok(entry) => entry,
-    };
+    let entry = said::entry(heap, name, text)?;
     let mut attributes = known;
-    match attributes.push(entry) {
-        Ok(()) => Ok(attributes),
-        Err(refused) => Err(Wrong::Limit(refused)),
-    }
+    attributes.push(entry)?;
+    Ok(attributes)
 }
 
 impl Draft {
@@ -81,6 +65,7 @@ impl Draft {
     pub(crate) fn with_word(self, heap: Global, word: &str) -> Result<Draft, Wrong>
         ensures { WordRead self word.now result }
     {
+        // both cases have a meaning of their own, so that `ok_or` is no plainer
         match word.split_once('=') {
             Some((name, text)) => self.with_named(heap, name, text),
             None => Err(Wrong::NoEquals),
@@ -91,77 +76,23 @@ impl Draft {
     fn with_named(self, heap: Global, name: &str, text: &str) -> Result<Draft, Wrong>
         ensures { NamedRead self name.now text.now result }
     {
+        let mut draft = self;
         match name {
-            "size" => match one_number(self.size, text) {
-                Err(wrong) => Err(wrong),
-                Ok(size) => Ok(self.with_size(size)),
-            },
-            "time" => match one_number(self.time, text) {
-                Err(wrong) => Err(wrong),
-                Ok(time) => Ok(self.with_time(time)),
-            },
-            "etag" => match one_e_tag(&self.e_tag, heap, text) {
-                Err(wrong) => Err(wrong),
-                Ok(e_tag) => Ok(self.with_e_tag(e_tag)),
-            },
-            "version" => match one_version(&self.version, heap, text) {
-                Err(wrong) => Err(wrong),
-                Ok(version) => Ok(self.with_version(version)),
-            },
-            _ => match one_more(self.attributes, heap, name, text) {
-                Err(wrong) => Err(wrong),
-                Ok(attributes) => Ok(self.with_attributes(attributes)),
-            },
+            "size" => draft.size = Some(one_number(self.size, text)?),
+            "time" => draft.time = Some(one_number(self.time, text)?),
+            "etag" => draft.e_tag = one_label(LabelKind::ETag, &self.e_tag, heap, text)?,
+            "version" => draft.version = one_label(LabelKind::Version, &self.version, heap, text)?,
+            _ => draft.attributes = one_more(self.attributes, heap, name, text)?,
         }
-    }
-
-    fn with_size(self, size: u64) -> Draft
-        ensures { result ≡ with_size self size }
-    {
-        Draft {
-            size: Some(size),
-            ..self
-        }
-    }
-
-    fn with_time(self, time: u64) -> Draft
-        ensures { result ≡ with_time self time }
-    {
-        Draft {
-            time: Some(time),
-            ..self
-        }
-    }
-
-    fn with_e_tag(self, e_tag: Label) -> Draft
-        ensures { result ≡ with_e_tag self e_tag }
-    {
-        Draft { e_tag, ..self }
-    }
-
-    fn with_version(self, version: Label) -> Draft
-        ensures { result ≡ with_version self version }
-    {
-        Draft { version, ..self }
-    }
-
-    fn with_attributes(self, attributes: Attributes) -> Draft
-        ensures { result ≡ with_attributes self attributes }
-    {
-        Draft { attributes, ..self }
+        Ok(draft)
     }
 
     // The head that the words say.
     pub(crate) fn head(self) -> Result<Head, NoHead>
         ensures { DraftRead self result }
     {
-        let Some(size) = self.size else {
-            return Err(NoHead::NoSize);
-        };
+        let size = self.size.ok_or(NoHead::NoSize)?;
         let time = self.time.unwrap_or(0);
-        match Head::new(size, time, self.e_tag, self.version, self.attributes) {
-            Ok(head) => Ok(head),
-            Err(refused) => Err(NoHead::Limit(refused)),
-        }
+        Ok(Head::new(size, time, self.e_tag, self.version, self.attributes)?)
     }
 }

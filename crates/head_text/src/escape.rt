@@ -21,12 +21,8 @@ fn hex_digit(b: u8) -> Option<u8>
 fn hex_byte(high: u8, low: u8) -> Option<u8>
     ensures { MatchOption result (NoHex high low) (λ b. Hex high low b) }
 {
-    let Some(h) = hex_digit(high) else {
-        return None;
-    };
-    let Some(l) = hex_digit(low) else {
-        return None;
-    };
+    let h = hex_digit(high)?;
+    let l = hex_digit(low)?;
     Some(16 * h + l)
 }
 
@@ -40,10 +36,7 @@ fn first_byte(first: u8, rest: &[u8]) -> Option<(u8, &[u8])>
     let [high, low, more @ ..] = rest else {
         return None;
     };
-    match hex_byte(*high, *low) {
-        None => None,
-        Some(b) => Some((b, more)),
-    }
+    Some((hex_byte(*high, *low)?, more))
 }
 
 // The bytes that a text writes, where it writes some.
@@ -53,6 +46,7 @@ pub fn unescaped(heap: Global, text: &[u8]) -> Result<Option<Vec<u8>>, AllocErro
     let mut bytes = Vec::new(heap);
     let mut left = text;
     while let [first, rest @ ..] = left {
+        // `?` would leave the Result with it
         let Some((b, more)) = first_byte(*first, rest) else {
             return Ok(None);
         };

@@ -1,6 +1,6 @@
 // Heads as text, one a line.
 //
-// Uses `ranges` and `records`. Programs that take heads from people use it.
+// Uses `ranges`, `lines` and `records`. Programs that take heads from people use it.
 // A head is words with white space between them: `size=N`, `time=N`, `etag=TEXT`, `version=TEXT`, and an
 // attribute for every other `KEY=TEXT`. One of the five known names gives that kind, another key metadata, and
 // `metadata:KEY=TEXT` is metadata under any key. In a key and a text `%` and two hex digits write a byte. A line

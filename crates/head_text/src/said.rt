@@ -1,90 +1,45 @@
 // What the text behind a `=` says, and the key before it.
 ghost use Rattle.std.specs.Prelude.{◌≡◌, ◌++◌, codes, MatchOption, MatchResult};
-ghost use Rattle.records.specs.Names.{key_of};
-ghost use Rattle.records.specs.Padded.{held};
+ghost use Rattle.records.specs.Bytes.{bytes_of};
+ghost use Rattle.records.specs.Limits.{label_reason};
 ghost use Rattle.head_text.specs.Texts.{Spells};
-ghost use Rattle.head_text.specs.Said.{Numbered, Unnumbered, Unspelled, Oversized, Labels, Unkeyed, Unmarked, Means, Meaningless, Enters, Unentered};
+ghost use Rattle.head_text.specs.Said.{Unspelled, Oversized, Labels, Unkeyed, Unmarked, Means, Meaningless, Enters, Unentered};
 
 use crate::escape::unescaped;
 use crate::no_head::Wrong;
-use records::{Attribute, AttributeEntry, Key, Label};
+use records::{Attribute, AttributeEntry, Key, Label, LabelKind};
 use std::alloc::Global;
-
-// The number that a text writes in decimal.
-pub(crate) fn number(text: &str) -> Option<u64>
-    ensures { MatchOption result (Unnumbered text.now) (λ n. Numbered text.now n) }
-{
-    match text.parse::<u64>() {
-        Ok(n) => Some(n),
-        Err(_) => None,
-    }
-}
 
 // The bytes that a text writes.
 fn bytes_of(heap: Global, text: &str) -> Result<Vec<u8>, Wrong>
     ensures { MatchResult result (λ v. Spells text.now v.items) (λ e. Unspelled text.now e) }
 {
-    match unescaped(heap, text.as_bytes()) {
-        Err(_) => Err(Wrong::NoMemory),
-        Ok(None) => Err(Wrong::NoByte),
-        Ok(Some(bytes)) => Ok(bytes),
-    }
+    unescaped(heap, text.as_bytes())?.ok_or(Wrong::NoByte)
 }
 
-// An e_tag of more than 64 bytes is refusal 3.
-pub(crate) fn e_tag(heap: Global, text: &str) -> Result<Label, Wrong>
-    ensures { MatchResult result (λ l. Labels text.now l) (λ e. Oversized 3 text.now e) }
+// An e_tag or a version; more than 64 bytes are refusal 3. This and the next two are two lines each, and no closure
+// would make them fewer. What allocates takes `heap`.
+pub(crate) fn label(kind: LabelKind, heap: Global, text: &str) -> Result<Label, Wrong>
+    ensures { MatchResult result (λ l. Labels text.now l) (λ e. Oversized (label_reason kind) text.now e) }
 {
-    let bytes = match bytes_of(heap, text) {
-        Err(wrong) => return Err(wrong),
-        Ok(bytes) => bytes,
-    };
-    match Label::e_tag(bytes.as_slice()) {
-        Ok(label) => Ok(label),
-        Err(refused) => Err(Wrong::Limit(refused)),
-    }
-}
-
-// A version of more than 64 bytes is refusal 3.
-pub(crate) fn version(heap: Global, text: &str) -> Result<Label, Wrong>
-    ensures { MatchResult result (λ l. Labels text.now l) (λ e. Oversized 4 text.now e) }
-{
-    let bytes = match bytes_of(heap, text) {
-        Err(wrong) => return Err(wrong),
-        Ok(bytes) => bytes,
-    };
-    match Label::version(bytes.as_slice()) {
-        Ok(label) => Ok(label),
-        Err(refused) => Err(Wrong::Limit(refused)),
-    }
+    let bytes = bytes_of(heap, text)?;
+    Label::new(kind, bytes.as_slice()).map_err(Wrong::Limit)
 }
 
 // An attribute with the value that a text writes; one of more than 64 bytes is refusal 3.
 fn valued(attribute: Attribute, heap: Global, text: &str) -> Result<AttributeEntry, Wrong>
-    ensures { MatchResult result (λ x. (x.attribute ≡ attribute) × Spells text.now (held x.value.len x.value.bytes)) (λ e. Oversized 7 text.now e) }
+    ensures { MatchResult result (λ x. (x.attribute ≡ attribute) × Spells text.now (bytes_of x.value)) (λ e. Oversized 7 text.now e) }
 {
-    let bytes = match bytes_of(heap, text) {
-        Err(wrong) => return Err(wrong),
-        Ok(bytes) => bytes,
-    };
-    match AttributeEntry::new(attribute, bytes.as_slice()) {
-        Ok(entry) => Ok(entry),
-        Err(refused) => Err(Wrong::Limit(refused)),
-    }
+    let bytes = bytes_of(heap, text)?;
+    AttributeEntry::new(attribute, bytes.as_slice()).map_err(Wrong::Limit)
 }
 
 // An attribute's key of no byte, or of more than 32, is refusal 3.
 fn key(heap: Global, text: &str) -> Result<Key, Wrong>
-    ensures { MatchResult result (λ k. Spells text.now (key_of k)) (λ e. Unkeyed text.now e) }
+    ensures { MatchResult result (λ k. Spells text.now (bytes_of k.name)) (λ e. Unkeyed text.now e) }
 {
-    let bytes = match bytes_of(heap, text) {
-        Err(wrong) => return Err(wrong),
-        Ok(bytes) => bytes,
-    };
-    match Key::new(bytes.as_slice()) {
-        Ok(key) => Ok(key),
-        Err(refused) => Err(Wrong::Limit(refused)),
-    }
+    let bytes = bytes_of(heap, text)?;
+    Key::new(bytes.as_slice()).map_err(Wrong::Limit)
 }
 
 // What stands behind `metadata:`.
@@ -99,14 +54,8 @@ fn attribute(heap: Global, name: &str) -> Result<Attribute, Wrong>
     ensures { MatchResult result (λ a. Means name.now a) (λ e. Meaningless name.now e) }
 {
     match behind_mark(name) {
-        Some(own) => match key(heap, own) {
-            Err(wrong) => Err(wrong),
-            Ok(key) => Ok(Attribute::Metadata(key)),
-        },
-        None => match key(heap, name) {
-            Err(wrong) => Err(wrong),
-            Ok(key) => Ok(Attribute::named(key)),
-        },
+        Some(own) => Ok(Attribute::Metadata(key(heap, own)?)),
+        None => Ok(Attribute::named(key(heap, name)?)),
     }
 }
 
@@ -114,8 +63,5 @@ fn attribute(heap: Global, name: &str) -> Result<Attribute, Wrong>
 pub(crate) fn entry(heap: Global, name: &str, text: &str) -> Result<AttributeEntry, Wrong>
     ensures { MatchResult result (λ x. Enters name.now text.now x) (λ e. Unentered name.now text.now e) }
 {
-    match attribute(heap, name) {
-        Err(wrong) => Err(wrong),
-        Ok(meant) => valued(meant, heap, text),
-    }
+    valued(attribute(heap, name)?, heap, text)
 }

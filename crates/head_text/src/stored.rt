@@ -5,14 +5,11 @@ ghost use Rattle.head_text.specs.Bytes.{Counts, Countless, Lists, FirstCountless
 use crate::no_head::NoBytes;
 use std::alloc::Global;
 
-// The byte that a word writes.
+// The byte that a word writes; `lines::number` reads 64 bits.
 fn byte(word: &str) -> Option<u8>
     ensures { MatchOption result (Countless word.now) (λ b. Counts word.now b) }
 {
-    match word.parse::<u8>() {
-        Ok(b) => Some(b),
-        Err(_) => None,
-    }
+    word.parse().ok()
 }
 
 // The bytes that the words write.
@@ -21,12 +18,11 @@ pub fn read_bytes(heap: Global, words: &[&str]) -> Result<Vec<u8>, NoBytes>
 {
     let mut bytes = Vec::new(heap);
     for (i, word) in words.iter().enumerate() {
+        // not `ok_or(..)?`, whose clauses do not tell which byte the word writes
         let Some(b) = byte(word) else {
             return Err(NoBytes::Word(i + 1));
         };
-        let Ok(()) = bytes.push(b) else {
-            return Err(NoBytes::NoMemory);
-        };
+        bytes.push(b)?;
     }
     Ok(bytes)
 }

@@ -3,7 +3,7 @@ use records::{Attribute, AttributeEntry, Head, Key, Label};
 use std::fmt;
 
 // The words of a head: those for size and time, those for what is present, and those for its attributes.
-#[derive(Clone, Copy)]
+#[derive(Clone, Copy, Debug)]
 pub struct Written<'a>(pub &'a Head);
 
 // Whether a byte stands for itself.
@@ -12,11 +12,10 @@ fn is_plain(b: u8) -> bool {
 }
 
 fn write_text<W: fmt::Write>(f: &mut fmt::Formatter<W>, bytes: &[u8]) -> fmt::Result {
-    for b in bytes {
-        if is_plain(*b) {
-            f.write_char(char::from(*b))?;
+    for &b in bytes {
+        if is_plain(b) {
+            f.write_char(char::from(b))?;
         } else {
-            let b = *b;
             write!(f, "%{b:02X}")?;
         }
     }

@@ -1,15 +1,13 @@
 -- What one more line adds to the counts.
-use Rattle.std.specs.Prelude.{◌≡◌, ℕ, ◌+◌, ◌-◌, ◌^◌, min}
+use Rattle.std.specs.Prelude.{◌≡◌, ℕ}
+use Rattle.lines.specs.Counts.{one_more}
 use Rattle.heads.specs.declared.tally.Said.{Said}
 use Rattle.heads.specs.declared.tally.Said.TheVariants.{Nothing, Head, Stored, NoHead, Neither}
 use Rattle.heads.specs.declared.tally.Tally.{Tally}
 
--- one more, up to 2^64 - 1
-abbrev pub one_more : ℕ → ℕ
-one_more n = min (n + 1) (2 ^ 64 - 1)
-
 abbrev pub Counts : Tally → (heads stored no-heads neither : ℕ) → Type 0
-Counts t heads stored no-heads neither = (t.heads ≡ heads) × (t.stored ≡ stored) × (t.no_heads ≡ no-heads) × (t.neither ≡ neither)
+Counts t heads stored no-heads neither =
+    (t.heads ≡ heads) × (t.stored ≡ stored) × (t.no_heads ≡ no-heads) × (t.neither ≡ neither)
 
 abbrev pub Counted : Tally → Said → Tally → Type 0
 Counted t Nothing u = Counts u t.heads t.stored t.no_heads t.neither

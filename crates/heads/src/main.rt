@@ -9,9 +9,10 @@ mod show;
 mod tally;
 
 use head_text::{read_bytes, read_head, says_nothing};
+use lines::for_each_line;
 use std::io;
-use std::io::{BufRead, BufReader};
-use std::str::from_utf8;
+use std::io::BufReader;
+use std::str::Utf8Error;
 use tally::{Said, Tally};
 
 // Prints how the head is stored that the words of a line say.
@@ -45,8 +46,13 @@ fn answer_bytes(rt: &HostRuntime, numbers: &[&str]) -> io::Result<Said> {
     }
 }
 
-// Prints what one line comes to.
-fn answer_line(rt: &HostRuntime, number: u64, line: &str) -> io::Result<Said> {
+// Prints what one line comes to. A line that is no text is neither.
+fn answer(rt: &HostRuntime, number: u64, line: Result<&str, Utf8Error>) -> io::Result<Said> {
+    let Ok(text) = line else {
+        println!(rt; "line {number}:\n    no head: the line is no text in UTF-8\n")?;
+        return Ok(Said::Neither);
+    };
+    let line = text.trim_end();
     let words: Vec<&str> = line.split_whitespace().collect(rt.alloc())?;
     if says_nothing(words.as_slice()) {
         return Ok(Said::Nothing);
@@ -58,33 +64,13 @@ fn answer_line(rt: &HostRuntime, number: u64, line: &str) -> io::Result<Said> {
     }
 }
 
-// A line may be any bytes; one that is no text is neither.
-fn answer_any(rt: &HostRuntime, number: u64, bytes: &[u8]) -> io::Result<Said> {
-    match from_utf8(bytes) {
-        Ok(line) => answer_line(rt, number, line.trim_end()),
-        Err(_) => {
-            println!(rt; "line {number}:\n    no head: the line is no text in UTF-8\n")?;
-            Ok(Said::Neither)
-        }
-    }
-}
-
-fn answer_all(rt: &HostRuntime) -> io::Result<()> {
-    let mut tally = Tally::new();
-    let mut number: u64 = 0;
-    for line in BufReader::new(rt.alloc(), rt.stdin())?.split(rt.alloc(), b'\n') {
-        let bytes = line?;
-        number = number.saturating_add(1);
-        tally.count(answer_any(rt, number, bytes.as_slice())?);
-    }
-    tally.show(rt)
-}
-
 fn main(rt: HostRuntime) -> anyhow::Result<()> {
-    run(&rt)
-}
-
-fn run(rt: &HostRuntime) -> anyhow::Result<()> {
-    answer_all(rt)?;
+    let mut tally = Tally::new();
+    let input = BufReader::new(rt.alloc(), rt.stdin())?;
+    for_each_line(rt.alloc(), input, |number, line| {
+        tally.count(answer(&rt, number, line)?);
+        Ok(())
+    })?;
+    println!(rt; "{tally}")?;
     Ok(())
 }

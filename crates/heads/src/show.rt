@@ -20,6 +20,7 @@ impl fmt::Display for Row<'_> {
 
 // The stored bytes of a head, 16 a line, and the head that they load as.
 pub fn stored(rt: &HostRuntime, head: &Head) -> io::Result<()> {
+    // `save` writes into a slice, as a cache does
     let mut room = [0; 927];
     match save(head, &mut room) {
         Err(short) => println!(rt; "    not stored: {short}\n"),
@@ -36,7 +37,7 @@ pub fn stored(rt: &HostRuntime, head: &Head) -> io::Result<()> {
     }
 }
 
-// The head that bytes load as, and whether they do.
+// The head that bytes load as; answers whether there is one.
 pub fn loaded(rt: &HostRuntime, bytes: &[u8]) -> io::Result<bool> {
     match load(bytes) {
         None => {

@@ -1,11 +1,11 @@
 // How many lines came to what.
-ghost use Rattle.std.specs.Prelude.{◌≡◌};
-ghost use Rattle.heads.specs.Tallied.{Counted};
+ghost use Rattle.heads.specs.Tallied.{Counts, Counted};
 
-use std::io;
+use lines::Counter;
+use std::fmt;
 
 // What a line said.
-#[derive(Clone, Copy)]
+#[derive(Clone, Copy, Debug, PartialEq, Eq)]
 pub enum Said {
     // blank, or a comment
     Nothing,
@@ -19,46 +19,46 @@ pub enum Said {
     Neither,
 }
 
-#[derive(Clone, Copy)]
+#[derive(Clone, Copy, Debug, PartialEq, Eq)]
 pub struct Tally {
-    heads: u64,
-    stored: u64,
-    no_heads: u64,
-    neither: u64,
+    heads: Counter,
+    stored: Counter,
+    no_heads: Counter,
+    neither: Counter,
 }
 
 impl Tally {
     pub fn new() -> Tally
-        ensures { (result.heads ≡ 0) × (result.stored ≡ 0) × (result.no_heads ≡ 0) × (result.neither ≡ 0) }
+        ensures { Counts result 0 0 0 0 }
     {
         Tally {
-            heads: 0,
-            stored: 0,
-            no_heads: 0,
-            neither: 0,
+            heads: Counter::new(),
+            stored: Counter::new(),
+            no_heads: Counter::new(),
+            neither: Counter::new(),
         }
     }
 
-    // Counts one more line; a count stays at 2^64 - 1.
+    // Counts one more line.
     pub fn count(&mut self, said: Said)
         ensures { Counted self.old said self.new }
     {
         match said {
             Said::Nothing => {}
-            Said::Head => self.heads = self.heads.saturating_add(1),
-            Said::Stored => self.stored = self.stored.saturating_add(1),
-            Said::NoHead => self.no_heads = self.no_heads.saturating_add(1),
-            Said::Neither => self.neither = self.neither.saturating_add(1),
+            Said::Head => self.heads.add_one(),
+            Said::Stored => self.stored.add_one(),
+            Said::NoHead => self.no_heads.add_one(),
+            Said::Neither => self.neither.add_one(),
         }
     }
+}
 
-    pub fn show(&self, rt: &HostRuntime) -> io::Result<()> {
-        let heads = self.heads;
-        let stored = self.stored;
-        let no_heads = self.no_heads;
-        let neither = self.neither;
-        println!(rt;
-            "{heads} heads saved, {stored} stored heads loaded, {no_heads} stored forms that are no head, {neither} lines that are neither"
+impl fmt::Display for Tally {
+    fn fmt<W: fmt::Write>(&self, f: &mut fmt::Formatter<W>) -> fmt::Result {
+        write!(
+            f,
+            "{} heads saved, {} stored heads loaded, {} stored forms that are no head, {} lines that are neither",
+            self.heads, self.stored, self.no_heads, self.neither
         )
     }
 }

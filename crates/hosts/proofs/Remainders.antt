@@ -1,23 +1,28 @@
 -- What is left of a number is worked out right, and there is one answer.
-use Rattle.std.proofs.Common.{◌≡◌, ℕ, zero, suc, ◌+◌, ◌*◌, ◌/◌, ◌<◌, ℤ, pos, negsuc, ◌+ℤ◌, ◌*ℤ◌, nat_abs, sym, refl, ap, ◌∙◌, subst, mod-lt, mod-eq_of_lt, suc-mul, arith}
+use Rattle.std.proofs.Common.{◌≡◌, ℕ, zero, suc, ◌+◌, ◌-◌, ◌*◌, ◌/◌, ◌%◌, ◌<◌, ℤ, pos, negsuc, ◌+ℤ◌, ◌*ℤ◌, nat_abs, sym, refl, ap, ◌∙◌, subst, mod-lt, mod-eq_of_lt, suc-mul, arith}
 use native.Mathlib.Nat.{mod-add-div'}
-use Rattle.std.proofs.lemmas.Bool.Decides.{nat_tests}
 use lib.Arith.{digits_mod}
 use Rattle.std.specs.Int.{int_rem_euclid}
 use Rattle.std.proofs.lemmas.Int.{ints, int_rem_euclid_is}
-use Rattle.hosts.specs.Numbers.{LeftOver, left_over, remainder}
+use Rattle.hosts.specs.Numbers.{LeftOver}
 
 -- a number that n goes into so many times
 times_in : ℤ → ℕ → ℤ
 times_in (pos m) n = pos (m / n)
 times_in (negsuc m) n = negsuc (m / n)
 
+-- how it is worked out; `negsuc m` is -(m + 1)
+remainder : ℤ → ℕ → ℕ
+remainder (pos m) n = m % n
+remainder (negsuc m) n = n - 1 - m % n
+
 remainder_below : (x : ℤ) (n : ℕ) → 0 < n → remainder x n < n
+unfolding remainder
 remainder_below (pos m) n some = mod-lt m some
 remainder_below (negsuc m) n some = omega arith
 
 remainder_is : (x : ℤ) (n : ℕ) → 0 < n → x ≡ (times_in x n *ℤ pos n) +ℤ pos (remainder x n)
-unfolding times_in
+unfolding times_in remainder
 remainder_is (pos m) n some = ap pos (omega (arith, mod-add-div' m n))
 remainder_is (negsuc m) n some =
     let below = mod-lt m some in
@@ -34,15 +39,9 @@ remainder_left x n some =
       nothing = λ e. absurd (omega arith);
     }
 
-left_over_is : (x : ℤ) (n : ℕ) → LeftOver x n (left_over x n)
-left_over_is x zero = record { below = λ h. omega arith; multiple = x; is = λ h. absurd (omega arith); nothing = λ e. refl }
-left_over_is x (suc n) =
-    let worked : remainder x (suc n) ≡ left_over x (suc n) = grind (arith, nat_tests) in
-    subst (λ r. LeftOver x (suc n) r) worked (remainder_left x (suc n) (omega arith))
-
--- the same of a number that was worked out so
-pub left_over_of : {x : ℤ} {n r : ℕ} → r ≡ left_over x n → LeftOver x n r
-left_over_of {x} {n} e = subst (λ r. LeftOver x n r) (sym e) (left_over_is x n)
+-- nothing is left where n is 0
+pub left_of_none : {x : ℤ} {n : ℕ} → n ≡ 0 → LeftOver x n 0
+left_of_none {x} none = record { below = λ some. omega arith; multiple = x; is = λ some. absurd (omega arith); nothing = λ e. refl }
 
 one_remainder : (x multiple : ℤ) (n r : ℕ) → r < n → x ≡ (multiple *ℤ pos n) +ℤ pos r → int_rem_euclid x (pos n) ≡ pos r
 one_remainder x (pos a) n r below is =
@@ -58,3 +57,9 @@ left_over_once x (suc n) r s a b =
     let first = one_remainder x a.multiple (suc n) r (a.below some) (a.is some) in
     let other = one_remainder x b.multiple (suc n) s (b.below some) (b.is some) in
     ap nat_abs (sym first ∙ other)
+
+-- what the library works out is what is left
+pub left_by_rem : {x : ℤ} {n r : ℕ} → 0 < n → int_rem_euclid x (pos n) ≡ pos r → LeftOver x n r
+left_by_rem {x} {n} {r} some is =
+    let worked = one_remainder x (times_in x n) n (remainder x n) (remainder_below x n some) (remainder_is x n some) in
+    subst (λ s. LeftOver x n s) (ap nat_abs (sym worked ∙ is)) (remainder_left x n some)

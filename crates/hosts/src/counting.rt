@@ -4,23 +4,36 @@ ghost use Rattle.hosts.specs.Numbers.{LeftOver, counted_on};
 
 use crate::host::Host;
 use crate::remainder::left_over;
+use std::marker::Model;
 
 // From 0 to 2^63 - 1 and round: each request takes the next number.
-#[derive(Clone, Copy)]
+#[derive(Clone, Copy, Debug, PartialEq, Eq)]
 pub struct CountingHost {
     next: u64,
-    ghost below: { next < 2 ^ 63 },
+}
+
+// In a contract it is the number that it gives next.
+impl Model for CountingHost {
+    ghost use Rattle.std.specs.Prelude.{ℕ, ◌^◌, ◌<◌};
+
+    ghost Value = { ℕ };
+
+    ghost view = { λ h. h.next };
+
+    ghost invariant = { λ h. h.next < 2 ^ 63 };
+
+    ghost inverse = { λ n. record { next = n } };
 }
 
 impl CountingHost {
     pub fn new() -> CountingHost
-        ensures { result.next ≡ 0 }
+        ensures { result ≡ 0 }
     {
         CountingHost { next: 0 }
     }
 
     fn take(&mut self) -> i64
-        ensures { (result ≡ pos self.old.next) × (self.new.next ≡ counted_on self.old.next) }
+        ensures { (result ≡ pos self.old) × (self.new ≡ counted_on self.old) }
     {
         let number = self.next;
         self.next = (number + 1) % (1 << 63);
@@ -29,9 +42,9 @@ impl CountingHost {
 }
 
 impl Host for CountingHost {
-    ghost times = { λ s r t. (r ≡ pos s.next) × (t.next ≡ counted_on s.next) };
+    ghost times = { λ s r t. (r ≡ pos s) × (t ≡ counted_on s) };
 
-    ghost draws = { λ s n r t. LeftOver (pos s.next) n r × (t.next ≡ counted_on s.next) };
+    ghost draws = { λ s n r t. LeftOver (pos s) n r × (t ≡ counted_on s) };
 
     fn time(&mut self) -> i64 {
         self.take()

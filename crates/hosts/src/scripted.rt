@@ -1,52 +1,41 @@
 // A host that reads a lent list.
 ghost use Rattle.std.specs.Prelude.{◌≡◌};
-ghost use Rattle.hosts.specs.Numbers.{LeftOver, number_at, place_after};
+ghost use Rattle.hosts.specs.Numbers.{LeftOver, first_number, numbers_left};
 
 use crate::host::Host;
 use crate::remainder::left_over;
 
-// Each request takes the next number of the list, past its end 0.
-#[derive(Clone, Copy)]
+// Each request takes the first number that is left, and 0 where none is.
+#[derive(Clone, Copy, Debug, PartialEq, Eq)]
 pub struct ScriptedHost<'a> {
-    numbers: &'a [i64],
-    next: usize,
+    left: &'a [i64],
 }
 
 impl<'a> ScriptedHost<'a> {
     pub fn new(numbers: &'a [i64]) -> ScriptedHost<'a>
-        ensures { (result.numbers.now ≡ numbers.now) × (result.next ≡ 0) }
+        ensures { result.left.now ≡ numbers.now }
     {
-        ScriptedHost { numbers, next: 0 }
+        ScriptedHost { left: numbers }
     }
 
     fn take(&mut self) -> i64
-        ensures value { result ≡ number_at self.old.numbers.now self.old.next }
-        ensures numbers { self.new.numbers.now ≡ self.old.numbers.now }
-        ensures next { self.new.next ≡ place_after self.old.numbers.now self.old.next }
+        ensures value { result ≡ first_number self.old.left.now }
+        ensures left { self.new.left.now ≡ numbers_left self.old.left.now }
     {
-        let place = self.next;
-        if place < self.numbers.len() {
-            self.next = place + 1;
+        match self.left {
+            [first, rest @ ..] => {
+                self.left = rest;
+                *first
+            }
+            [] => 0,
         }
-        number_at(self.numbers, place)
-    }
-}
-
-// Past the list's end 0.
-fn number_at(numbers: &[i64], place: usize) -> i64
-    ensures { result ≡ number_at numbers.now place }
-{
-    if place < numbers.len() {
-        numbers[place]
-    } else {
-        0
     }
 }
 
 impl<'a> Host for ScriptedHost<'a> {
-    ghost times = { λ s r t. (r ≡ number_at s.numbers.now s.next) × (t.numbers.now ≡ s.numbers.now) × (t.next ≡ place_after s.numbers.now s.next) };
+    ghost times = { λ s r t. (r ≡ first_number s.left.now) × (t.left.now ≡ numbers_left s.left.now) };
 
-    ghost draws = { λ s n r t. LeftOver (number_at s.numbers.now s.next) n r × (t.numbers.now ≡ s.numbers.now) × (t.next ≡ place_after s.numbers.now s.next) };
+    ghost draws = { λ s n r t. LeftOver (first_number s.left.now) n r × (t.left.now ≡ numbers_left s.left.now) };
 
     fn time(&mut self) -> i64 {
         self.take()

@@ -4,7 +4,7 @@ use Rattle.std.proofs.lemmas.List.Sums.{sum_by-cons}
 use Rattle.std.proofs.lemmas.Bool.{cases_Bool, both_ways, and_parts, and_from, not-true, not_from_false, or_parts, cond-true, cond-false}
 use Rattle.cache.specs.Keys.{Key, same_key}
 use Rattle.cache.specs.Tracking.{Entry}
-use Rattle.cache.proofs.SameKey.{same_key_decides}
+use Rattle.cache.specs.SameKey.{same_key_decides}
 use Rattle.index.specs.Table.{tracks, once}
 
 -- 1 where an entry has the key
@@ -16,9 +16,6 @@ times k es = sum_by (one_if k) es
 
 pub same_key_true : (j k : Key) → j ≡ k → same_key j k ≡ true
 same_key_true j k e = (same_key_decides j k).1 e
-
-pub same_keys : (j k : Key) → true ≡ same_key j k → j ≡ k
-same_keys j k t = (same_key_decides j k).0 (sym t)
 
 pub same_key_false : (j k : Key) → (j ≡ k → ⊥) → same_key j k ≡ false
 same_key_false j k ne = ⊎_elim (λ t. absurd (ne ((same_key_decides j k).0 t))) (λ f. f) (cases_Bool (same_key j k))

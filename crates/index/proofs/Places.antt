@@ -1,16 +1,16 @@
 -- Where a key is tracked.
-use Rattle.std.proofs.Common.{◌≡◌, ℕ, zero, suc, ◌+◌, ◌<◌, true, false, not, List, [], ◌∷◌, length, get_or, take, sym, refl, ap, ◌∙◌, subst, ⊎_elim, arith}
-use Rattle.std.specs.List.{ContainsAt as Has, AllByRecursion as All}
+use Rattle.std.proofs.Common.{◌≡◌, ℕ, zero, suc, ◌<◌, true, false, not, List, [], ◌∷◌, length, get_or, Some, None, Option, MatchOption, sym, refl, ap, ◌∙◌, subst, ⊎_elim, arith}
+use Rattle.std.specs.List.{ContainsAt as Has, AllByRecursion as All, AllWithin, HoldsAt}
 use Rattle.std.proofs.ByRecursion.{All-get_or, All-weaker, all_has_itself}
 use Rattle.std.proofs.lemmas.List.{length-map, get_or_read, get_or-map}
-use Rattle.std.proofs.lemmas.List.Sums.{sum_by_more, get_or-le-sum_by}
-use Rattle.std.proofs.lemmas.Bool.{cases_Bool, both_ways, and_parts, not-true, cond-false}
-use Rattle.cache.specs.Keys.{Key, same_key}
+use Rattle.std.proofs.lemmas.List.Sums.{get_or-le-sum_by}
+use Rattle.std.proofs.lemmas.Option.{slice_get_cases}
+use Rattle.std.proofs.lemmas.Bool.{both_ways, and_parts, not-true}
+use Rattle.cache.specs.Keys.{Key, same_key, key_of}
 use Rattle.cache.specs.Tracking.{Entry}
-use Rattle.cache.proofs.SameKey.{same_key_decides}
 use Rattle.index.specs.declared.record.KeyRecord.{KeyRecord}
 use Rattle.index.specs.Table.{entry_of, entries_of, tracks, once, TrackedAt}
-use Rattle.index.proofs.Counts.{one_if, one_if_same, tracked_by_times, times_of_untracked, untracked_by_times}
+use Rattle.index.proofs.Counts.{one_if, one_if_same, tracked_by_times}
 
 pub tracks_at : {k : Key} {es : List Entry} {i : ℕ} {e : Entry} → TrackedAt k es i e → tracks k es ≡ true
 tracks_at {k} {es} {i} {e} t =
@@ -21,21 +21,6 @@ tracks_at {k} {es} {i} {e} t =
 -- no place has a key that is not tracked
 pub no_place : {k : Key} {es : List Entry} {i : ℕ} {e : Entry} → tracks k es ≡ false → TrackedAt k es i e → ⊥
 no_place {k} {es} f t = both_ways (tracks k es) f (tracks_at t)
-
--- a key is tracked at some place
-abbrev pub Place : Key → List Entry → Type 0
-Place k es = (i : ℕ) × (e : Entry) × TrackedAt k es i e
-
-pub place_of : (k : Key) (es : List Entry) → tracks k es ≡ true → Place k es
-place_of k [] t = absurd (both_ways false refl t)
-place_of k (e ∷ es) t =
-    ⊎_elim
-    (λ here. (0, e, record { within = omega arith; is = refl; key = (same_key_decides e.key k).0 here }))
-    (λ other.
-    let later : tracks k es ≡ true = rw other at t in
-    let p = place_of k es later in
-    (suc p.0, p.1, record { within = let l = p.2.within in omega arith; is = p.2.is; key = p.2.key }))
-    (cases_Bool (same_key e.key k))
 
 -- a key that is tracked once has one place and one entry
 pub one_place : (k : Key) (es : List Entry) (i j : ℕ) (e f : Entry) → once es ≡ true → TrackedAt k es i e → TrackedAt k es j f → i ≡ j
@@ -75,14 +60,6 @@ one_key {j} {k} {es} {i} {e} {f} a b =
 pub all_at : (P : Entry → Type 0) {k : Key} {es : List Entry} {i : ℕ} {e : Entry} → All P es → TrackedAt k es i e → P e
 all_at P {k} {es} {i} {e} h t = subst P (sym t.is) (All-get_or P es i e t.within h)
 
--- what a search has passed
-pub untracked_more : (k : Key) (es : List Entry) (i : ℕ) (e : Entry) → i < length es → e ≡ get_or es i e → false ≡ same_key e.key k → tracks k (take i es) ≡ false → tracks k (take (i + 1) es) ≡ false
-untracked_more k es i e l is other before =
-    let more = sum_by_more (one_if k) es i e l in
-    let none : one_if k (get_or es i e) ≡ 0 = ap (one_if k) (sym is) ∙ cond-false (same_key e.key k) 1 0 (sym other) in
-    let z = times_of_untracked k (take i es) before in
-    untracked_by_times k (take (i + 1) es) (omega arith)
-
 -- a record of the code is read: so is its entry
 pub entry_read : (rs : List KeyRecord) (i : ℕ) (r : KeyRecord) → i < length rs → r ≡ get_or rs i r → entry_of r ≡ get_or (entries_of rs) i (entry_of r)
 entry_read rs i r l is = ap entry_of is ∙ sym (get_or-map entry_of rs i r (entry_of r) l)
@@ -100,3 +77,25 @@ pub all_placed : (es : List Entry) → All (λ e. (i : ℕ) × TrackedAt e.key e
 all_placed es =
     All-weaker (Has es) (λ e. (i : ℕ) × TrackedAt e.key es i e)
     (λ e h. (h.0, record { within = h.1; is = sym (h.2 e); key = refl })) es (all_has_itself es)
+
+-- what a search of the records for a key says
+untracked : (k : Key) (rs : List KeyRecord) → AllWithin (λ r. same_key (key_of r.key) k ≡ false) rs 0 (length rs) → tracks k (entries_of rs) ≡ false
+untracked k [] none = refl
+untracked k (r ∷ rs) none =
+    let other : same_key (key_of r.key) k ≡ false = none 0 r (omega arith) (omega arith) in
+    rw other (untracked k rs (λ i d low high. none (suc i) d (omega arith) (omega arith)))
+
+pub searched : (k : Key) (rs : List KeyRecord) (found : Option ℕ) → MatchOption found (AllWithin (λ r. same_key (key_of r.key) k ≡ false) rs 0 (length rs)) (λ i. (i < length rs) × HoldsAt (λ r. key_of r.key ≡ k) rs i × AllWithin (λ r. same_key (key_of r.key) k ≡ false) rs 0 i) → MatchOption found (tracks k (entries_of rs) ≡ false) (λ i. (e : Entry) × TrackedAt k (entries_of rs) i e)
+searched k rs None none = untracked k rs none
+searched k rs (Some i) here =
+    ⊎_elim
+    (λ r. (
+      entry_of r.0,
+      record {
+        within = let n = length-map rs entry_of in let l = here.0 in omega arith;
+        is = entry_read rs i r.0 here.0 (sym r.3);
+        key = let P : KeyRecord → Type 0 = λ x. key_of x.key ≡ k in subst P r.3 (here.1 r.0);
+      },
+    ))
+    (λ past. let l = here.0 in let p = past.0 in absurd (omega arith))
+    (slice_get_cases rs i).1

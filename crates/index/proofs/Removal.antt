@@ -5,12 +5,12 @@ use Rattle.std.proofs.ByRecursion.{All-get_or, All-set, All-take}
 use Rattle.std.proofs.lemmas.List.{length-map, get_or-map, take-map, map-set, length-set, length-take-le, take_all, get_or-take, get_or-set_same, get_or-set_other, get_or_default}
 use Rattle.std.proofs.lemmas.List.Sums.{sum_by-set, sum_by_more}
 use Rattle.std.proofs.lemmas.Bool.{cases_eq}
-use Rattle.cache.specs.Keys.{Key}
+use Rattle.cache.specs.Keys.{Key, key_of}
 use Rattle.cache.specs.Tracking.{Entry, sizes}
 use Rattle.index.specs.declared.record.KeyRecord.{KeyRecord}
-use Rattle.index.specs.Table.{entry_of, entries_of, tracks, once, TrackedAt, Removed}
+use Rattle.index.specs.Table.{entry_of, entries_of, tracks, once, IsTable, TrackedAt, Removed}
 use Rattle.index.proofs.Counts.{one_if, one_if_same, one_if_other, times_of_once, once_by_times, untracked_by_times, tracks_by_times}
-use Rattle.index.proofs.Places.{one_key, all_at, all_placed, tracked_record}
+use Rattle.index.proofs.Places.{one_key, tracked_record}
 
 -- the last entry, and the table once it stands in the gap too
 abbrev last_of : Entry → List Entry → Entry
@@ -72,6 +72,9 @@ pub removed_once : {e : Entry} {es after : List Entry} → Removed e es after �
 removed_once {e} {es} {after} r o =
     once_by_times after (λ j. let h = removed_sums (one_if j) r in let top = times_of_once es o j in omega arith)
 
+pub removed_table : {e : Entry} {es after : List Entry} → Removed e es after → IsTable es → IsTable after
+removed_table r is = record { few = (let f = is.few in let l = removed_length r in omega arith); distinct = removed_once r is.distinct }
+
 -- what holds of every entry still does
 pub removed_all : (P : Entry → Type 0) {e : Entry} {es after : List Entry} → Removed e es after → All P es → All P after
 removed_all P {e} {es} {after} r h =
@@ -103,28 +106,22 @@ removed_other {e} {es} {after} {j} {i} {f} r ne a =
     (λ other. (i, record { within = omega (arith, other); is = reads.1 other; key = a.key }))
     (cases_eq i (length es - 1))
 
--- and nothing is new
-pub removed_from : {e : Entry} {es after : List Entry} {j : Key} {i : ℕ} {f : Entry} → Removed e es after → TrackedAt j after i f → (p : ℕ) × TrackedAt j es p f
-removed_from {e} {es} {after} {j} {i} {f} r a =
-    let P : Entry → Type 0 = λ x. (p : ℕ) × TrackedAt x.key es p x in
-    let h = all_at P (removed_all P r (all_placed es)) a in
-    let Q : Key → Type 0 = λ k. TrackedAt k es h.0 f in
-    (h.0, subst Q a.key h.1)
-
 -- a record of the code is taken out, and the last one put into its gap
-pub swapped_removes : {k : Key} (rs after : List KeyRecord) {i : ℕ} {e : Entry} (r : KeyRecord) → TrackedAt k (entries_of rs) i e → r ≡ get_or rs i r → after ≡ take (length rs - 1) (set rs i (get_or rs (length rs - 1) r)) → Removed (entry_of r) (entries_of rs) (entries_of after)
-swapped_removes {k} rs after {i} {e} r t is now =
+pub swapped_removes : {k : Key} (rs after : List KeyRecord) {i : ℕ} {e : Entry} (r : KeyRecord) → r ≡ get_or rs i r → after ≡ take (length rs - 1) (set rs i (get_or rs (length rs - 1) r)) → TrackedAt k (entries_of rs) i e → (key_of r.key ≡ k) × Removed (entry_of r) (entries_of rs) (entries_of after)
+swapped_removes {k} rs after {i} {e} r is now t =
     let here = tracked_record rs r t is in
     let n : length (entries_of rs) ≡ length rs = length-map rs entry_of in
     let l : i < length (entries_of rs) = t.within in
     let end : entry_of (get_or rs (length rs - 1) r) ≡ get_or (entries_of rs) (length rs - 1) (entry_of r) =
     sym (get_or-map entry_of rs (length rs - 1) r (entry_of r) (omega arith)) in
-    let P : ℕ → Type 0 = λ m. entries_of after ≡ take (m - 1) (set (entries_of rs) i (get_or (entries_of rs) (m - 1) (entry_of r))) in
-    record {
-      place = i;
-      tracked = record { within = here.within; is = here.is; key = refl };
-      is = subst P (sym n)
-          (ap entries_of now
-          ∙ sym (take-map entry_of (length rs - 1) (set rs i (get_or rs (length rs - 1) r)))
-          ∙ ap (take (length rs - 1)) (map-set entry_of rs i (get_or rs (length rs - 1) r) ∙ ap (set (entries_of rs) i) end));
-    }
+    let P : ℕ → Type 0 = λ m. entries_of after ≡ take (m - 1) (set (entries_of rs) i (get_or (entries_of rs) (m - 1) (entry_of r))) in (
+      here.key,
+      record {
+        place = i;
+        tracked = record { within = here.within; is = here.is; key = refl };
+        is = subst P (sym n)
+            (ap entries_of now
+            ∙ sym (take-map entry_of (length rs - 1) (set rs i (get_or rs (length rs - 1) r)))
+            ∙ ap (take (length rs - 1)) (map-set entry_of rs i (get_or rs (length rs - 1) r) ∙ ap (set (entries_of rs) i) end));
+      },
+    )

@@ -1,20 +1,21 @@
 -- The smallest part of a path.
-use Rattle.std.proofs.Common.{◌≡◌, ℕ, ◌+◌, ◌<◌, ◌≤◌, min, true, ◌⊎◌, List, [], ◌∷◌, length, get_or, drop, Some, None, Option, sym, refl, ap, ◌∙◌, subst, inl, inr, ⊎_elim, arith}
-use Rattle.std.specs.List.{AllByRecursion as All}
+use Rattle.std.proofs.Common.{◌≡◌, ℕ, ◌≤◌, min, true, ◌⊎◌, List, [], ◌∷◌, Some, None, Option, sym, refl, ap, ◌∙◌, inl, inr, ⊎_elim, arith}
+use Rattle.std.specs.List.{AllByRecursion as All, cons_option, filter_map, reduce}
 use Rattle.std.specs.Str.{bytes_eq}
 use Rattle.std.proofs.ByRecursion.{All-weaker}
 use Rattle.std.proofs.lemmas.Slice.Eq.{bytes_eq-Decides}
-use Rattle.std.proofs.lemmas.List.{at_drop_more, at_drop_all}
+use Rattle.std.specs.Iterator.{PicksByCmp}
+use Rattle.std.specs.Ordering.{nat_cmp, min_by_ordering}
+use Rattle.std.proofs.lemmas.Iterator.{YieldsList}
+use Rattle.std.proofs.lemmas.Iterator.Adapters.{option_map_id}
+use Rattle.std.proofs.lemmas.Iterator.Consumers.{min_from_yields_List}
 use Rattle.std.proofs.lemmas.Bool.{cases_Bool, cases_lt, cond-true, cond-false, or_left, or_right}
-use Rattle.cache.specs.Keys.{Key, head_key, part_key, key_path, same_key}
+use Rattle.cache.specs.Keys.{Key, head_key, part_key, key_path, same_key, key_of}
 use Rattle.cache.specs.Tracking.{Entry}
+use Rattle.index.specs.declared.record.KeyRecord.{KeyRecord}
 use Rattle.index.specs.Parts.{part_number, smaller_of, smallest_part}
-use Rattle.index.specs.Table.{tracks}
+use Rattle.index.specs.Table.{entries_of, tracks}
 use Rattle.index.proofs.Counts.{same_key_true}
-
-pub smaller_none : (a : Option ℕ) → smaller_of a None ≡ a
-smaller_none None = refl
-smaller_none (Some m) = refl
 
 pub smaller_assoc : (a b c : Option ℕ) → smaller_of (smaller_of a b) c ≡ smaller_of a (smaller_of b c)
 smaller_assoc None b c = refl
@@ -22,15 +23,24 @@ smaller_assoc (Some m) None c = refl
 smaller_assoc (Some m) (Some n) None = refl
 smaller_assoc (Some m) (Some n) (Some k) = let h : min (min m n) k ≡ min m (min n k) = omega arith in ap Some h
 
--- one record further in the search
-pub smallest_more : (path : List ℕ) (so_far : Option ℕ) (es : List Entry) (i : ℕ) (e : Entry) → i < length es → e ≡ get_or es i e → smaller_of so_far (smallest_part path (drop i es)) ≡ smaller_of (smaller_of so_far (part_number path e.key)) (smallest_part path (drop (i + 1) es))
-smallest_more path so_far es i e l is =
-    let P : Entry → Type 0 = λ x. smaller_of so_far (smallest_part path (drop i es)) ≡ smaller_of so_far (smaller_of (part_number path x.key) (smallest_part path (drop (i + 1) es))) in
-    subst P (sym is) (at_drop_more (λ xs. smaller_of so_far (smallest_part path xs)) es i e l)
-    ∙ sym (smaller_assoc so_far (part_number path e.key) (smallest_part path (drop (i + 1) es)))
+reduce_min : (o : Option ℕ) (ns : List ℕ) → reduce min (cons_option o ns) ≡ smaller_of o (reduce min ns)
+reduce_min None ns = refl
+reduce_min (Some m) [] = refl
+reduce_min (Some m) (n ∷ ns) =
+    reduce_min (Some (min m n)) ns
+    ∙ smaller_assoc (Some m) (Some n) (reduce min ns)
+    ∙ ap (smaller_of (Some m)) (sym (reduce_min (Some n) ns))
 
-pub smallest_all : (path : List ℕ) (so_far : Option ℕ) (es : List Entry) (i : ℕ) → length es ≤ i → smaller_of so_far (smallest_part path (drop i es)) ≡ so_far
-smallest_all path so_far es i l = at_drop_all (λ xs. smaller_of so_far (smallest_part path xs)) es i l ∙ smaller_none so_far
+smallest_is : (path : List ℕ) (rs : List KeyRecord) → reduce min (filter_map (λ r. part_number path (key_of r.key)) rs) ≡ smallest_part path (entries_of rs)
+smallest_is path [] = refl
+smallest_is path (r ∷ rs) =
+    reduce_min (part_number path (key_of r.key)) (filter_map (λ x. part_number path (key_of x.key)) rs)
+    ∙ ap (smaller_of (part_number path (key_of r.key))) (smallest_is path rs)
+
+-- the least of the numbers of the parts is the smallest part
+pub least_is_smallest : {S : Type 0} {steps : S → Option ℕ → S → Type 0} {s : S} (path : List ℕ) (rs : List KeyRecord) {least : Option ℕ} → PicksByCmp steps min_by_ordering nat_cmp s least → YieldsList steps (λ n. n) s (filter_map (λ r. part_number path (key_of r.key)) rs) → least ≡ smallest_part path (entries_of rs)
+least_is_smallest {s} path rs {least} picked numbers =
+    sym (option_map_id least) ∙ min_from_yields_List s least picked numbers ∙ smallest_is path rs
 
 -- what a number of a part says of the key
 pub part_of_number : (path : List ℕ) (k : Key) (n : ℕ) → part_number path k ≡ Some n → k ≡ part_key path n

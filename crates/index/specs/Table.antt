@@ -1,5 +1,5 @@
 -- The table of tracked keys, and its changes.
-use Rattle.std.specs.Prelude.{◌≡◌, ℕ, ◌+◌, ◌-◌, ◌<◌, Bool, true, false, not, ◌&&◌, ◌||◌, ◌⊎◌, List, [], ◌∷◌, ◌++◌, map, length, take, ℤ, ◌≢◌, slice_index_or, slice_set}
+use Rattle.std.specs.Prelude.{◌≡◌, ℕ, ◌+◌, ◌-◌, ◌<◌, ◌≤◌, Bool, true, false, not, ◌&&◌, ◌||◌, ◌⊎◌, List, [], ◌∷◌, ◌++◌, map, length, take, ℤ, ◌≢◌, slice_index_or, slice_set}
 use Rattle.std.specs.List.{AllByRecursion}
 use Rattle.cache.specs.Keys.{Key, head_key, part_key, key_path, same_key, key_of}
 use Rattle.cache.specs.Tracking.{Entry}
@@ -27,6 +27,11 @@ pub record TrackedAt (k : Key) (es : List Entry) (i : ℕ) (e : Entry) : Type 0 
 abbrev pub once : List Entry → Bool
 once [] = true
 once (e ∷ es) = not (tracks e.key es) && once es
+
+-- what is true of the keys of every index: at most 256, none twice
+pub record IsTable (es : List Entry) : Type 0 where
+  pub few : length es ≤ 256
+  pub distinct : once es ≡ true
 
 -- the time of one key is set, and nothing else
 pub record Touched (k : Key) (time : ℤ) (es after : List Entry) : Type 0 where

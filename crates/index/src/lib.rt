@@ -2,9 +2,11 @@
 //
 // Uses `ranges` and `records` for part numbers and paths, and `cache` for keys. `picking` reads it, `evictor`
 // changes it.
-// Promises: at most 256 keys, none twice, and a total that is always the sum of their sizes.
+// Promises: contracts see an index as the list of its entries, at most 256 and no key twice; its total is always the
+// sum of their sizes. A new key that finds 256 tracked is refused (`IndexFull`), and nothing changes.
 #![tactic(auto)]
 
+mod full;
 mod index;
 mod path_keys;
 mod record;
@@ -13,5 +15,6 @@ mod table;
 mod tests;
 mod tracking;
 
+pub use full::IndexFull;
 pub use index::Index;
 pub use record::KeyRecord;

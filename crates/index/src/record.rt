@@ -4,7 +4,7 @@ ghost use Rattle.std.specs.Prelude.{◌≡◌, ◌^◌, ◌<◌};
 use cache::CacheKey;
 
 // The size that it was appended with, and when it was last used.
-#[derive(Clone, Copy)]
+#[derive(Clone, Copy, Debug, PartialEq, Eq)]
 pub struct KeyRecord {
     pub key: CacheKey,
     pub size: usize,

@@ -1,36 +1,20 @@
 // Which keys are tracked, and what a use of one changes.
-ghost use Rattle.std.specs.Prelude.{◌≡◌, ◌+◌, ◌^◌, ◌<◌, ◌≤◌, true, false, [], length, IfOk, MatchBool, MatchOption};
+ghost use Rattle.std.specs.Prelude.{◌≡◌, ◌+◌, ◌^◌, ◌<◌, ◌≤◌, true, false, [], length, IfOk, MatchBool, MatchOption, MatchResult};
 ghost use Rattle.cache.specs.Keys.{key_of};
 ghost use Rattle.cache.specs.Tracking.{Entry, sizes};
-ghost use Rattle.index.specs.Indexes.{tracked_in};
-ghost use Rattle.index.specs.Table.{entry_of, tracks, TrackedAt, Touched, Used, Removed};
+ghost use Rattle.index.specs.Table.{entry_of, entries_of, tracks, IsTable, TrackedAt, Touched, Used, Removed};
 
+use crate::full::IndexFull;
 use crate::index::Index;
 use crate::record::KeyRecord;
 use crate::table::KeyTable;
 use cache::CacheKey;
 use std::alloc::{AllocError, Global};
 
-// A total with one size more.
-fn raised(total: u128, size: usize) -> u128
-    requires { total < 2 ^ 127 }
-    ensures { result ≡ total + size }
-{
-    total + size as u128
-}
-
-// A total with one size less.
-fn lowered(total: u128, size: usize) -> u128
-    requires { size ≤ total }
-    ensures { result + size ≡ total }
-{
-    total - size as u128
-}
-
 impl Index {
     // Nothing tracked, with room for 256 keys.
     pub fn new(heap: Global) -> Result<Index, AllocError>
-        ensures { IfOk result (λ x. tracked_in x ≡ []) }
+        ensures { IfOk result (λ x. x ≡ []) }
     {
         Ok(Index {
             table: KeyTable {
@@ -42,40 +26,36 @@ impl Index {
 
     // The tracked keys in their order.
     pub fn records(&self) -> &[KeyRecord]
-        ensures value { result.now ≡ self.now.table.records.items }
+        ensures value { entries_of result.now ≡ self.now }
         ensures few { length result.now ≤ 256 }
+        ensures table { IsTable self.now }
     {
         self.table.records.as_slice()
     }
 
     // The sum of the tracked sizes.
     pub fn total(&self) -> u128
-        ensures { (result ≡ self.now.total) × (result ≡ sizes (tracked_in self.now)) }
+        ensures { result ≡ sizes self.now }
     {
         self.total
     }
 
     // Where a key is tracked.
     fn find(&self, key: &CacheKey) -> Option<usize>
-        ensures { MatchOption result (tracks (key_of key.now) (tracked_in self.now) ≡ false) (λ i. ((e : Entry) × TrackedAt (key_of key.now) (tracked_in self.now) i e)) }
+        ensures { MatchOption result (tracks (key_of key.now) self.now ≡ false) (λ i. ((e : Entry) × TrackedAt (key_of key.now) self.now i e)) }
     {
-        for (i, r) in self.table.records.iter().enumerate() {
-            if r.key.same(key) {
-                return Some(i);
-            }
-        }
-        None
+        self.table.records.iter().position(|r| r.key == *key)
     }
 
     pub fn is_tracked(&self, key: &CacheKey) -> bool
-        ensures { result ≡ tracks (key_of key.now) (tracked_in self.now) }
+        ensures { result ≡ tracks (key_of key.now) self.now }
     {
         self.find(key).is_some()
     }
 
     // Sets the access time of a tracked key, and of no other; answers whether it is tracked.
     pub fn set_access_time(&mut self, key: &CacheKey, time: i64) -> bool
-        ensures { MatchBool result (Touched (key_of key.now) time (tracked_in self.old) (tracked_in self.new)) ((tracks (key_of key.now) (tracked_in self.old) ≡ false) × (self.new ≡ self.old)) }
+        ensures { MatchBool result (Touched (key_of key.now) time self.old self.new) ((tracks (key_of key.now) self.old ≡ false) × (self.new ≡ self.old)) }
     {
         let Some(i) = self.find(key) else {
             return false;
@@ -85,32 +65,36 @@ impl Index {
     }
 
     // Notes a use of a key: a known key has its access time set and keeps its size, a new one is appended.
-    // Answers false, and changes nothing, where a new key finds 256 tracked.
-    pub fn track_entry_accessed(&mut self, key: CacheKey, size: usize, time: i64) -> bool
-        ensures { MatchBool result (Used (key_of key) size time (tracked_in self.old) (tracked_in self.new)) ((tracks (key_of key) (tracked_in self.old) ≡ false) × (length (tracked_in self.old) ≡ 256) × (self.new ≡ self.old)) }
+    // Refuses, and changes nothing, where a new key finds 256 tracked.
+    pub fn track_entry_accessed(
+        &mut self,
+        key: CacheKey,
+        size: usize,
+        time: i64,
+    ) -> Result<(), IndexFull>
+        ensures { MatchResult result (λ _. Used (key_of key) size time self.old self.new) (λ _. (tracks (key_of key) self.old ≡ false) × (length self.old ≡ 256) × (self.new ≡ self.old)) }
     {
         if self.set_access_time(&key, time) {
-            return true;
+            return Ok(());
         }
         if self.table.is_full() {
-            return false;
+            return Err(IndexFull);
         }
         self.table
             .records
             .push_reserved(KeyRecord { key, size, time });
-        self.total = raised(self.total, size);
-        true
+        self.total += size as u128;
+        Ok(())
     }
 
     // Removes a key, and puts the last one into the gap.
     pub fn remove_entry(&mut self, key: &CacheKey) -> Option<KeyRecord>
-        ensures { MatchOption result ((tracks (key_of key.now) (tracked_in self.old) ≡ false) × (self.new ≡ self.old)) (λ gone. (key_of gone.key ≡ key_of key.now) × Removed (entry_of gone) (tracked_in self.old) (tracked_in self.new)) }
+        ensures answer { MatchOption result ((tracks (key_of key.now) self.old ≡ false) × (self.new ≡ self.old)) (λ gone. (key_of gone.key ≡ key_of key.now) × Removed (entry_of gone) self.old self.new) }
+        ensures table { IsTable self.old }
     {
-        let Some(i) = self.find(key) else {
-            return None;
-        };
+        let i = self.find(key)?;
         let gone = self.table.take_out(i);
-        self.total = lowered(self.total, gone.size);
+        self.total -= gone.size as u128;
         Some(gone)
     }
 }

@@ -8,7 +8,7 @@ use Rattle.std.proofs.lemmas.List.Sums.{sum_by_push}
 use Rattle.std.proofs.lemmas.Bool.{and_parts, not-true, or_parts, both_ways, cases_eq, cases_order}
 use Rattle.cache.specs.Keys.{Key, same_key}
 use Rattle.cache.specs.Tracking.{Entry, sizes}
-use Rattle.cache.proofs.SameKey.{same_key_decides}
+use Rattle.cache.specs.SameKey.{same_key_decides}
 use Rattle.index.specs.Table.{tracks, once}
 use Rattle.picking.specs.Picks.{unpicked, Pick, Picking, none_yet, picks_one}
 use Rattle.picking.proofs.Draws.{drawn_available, unmarked}

@@ -1,8 +1,8 @@
 -- A run of picks grows by one pick, and ends.
-use Rattle.std.proofs.Common.{◌≡◌, ℕ, ◌≤◌, Bool, true, false, ◌&&◌, ltb, leb, List, [], ◌∷◌, ◌++◌, length, set, replicate, sym, subst, inl, inr, ⊎_elim}
-use Rattle.std.proofs.lemmas.Bool.{and_parts, and_cases, ltb-true, ltb-false, leb-true, leb-false}
+use Rattle.std.proofs.Common.{◌≡◌, ℕ, ◌≤◌, Bool, true, false, ◌&&◌, ltb, leb, List, [], ◌∷◌, ◌++◌, length, set, replicate, sym, subst}
+use Rattle.std.proofs.lemmas.Bool.{and_parts, ltb-true, leb-true}
 use Rattle.cache.specs.Tracking.{Entry, sizes}
-use Rattle.picking.specs.Picks.{unpicked, Pick, Picking, none_yet, picks_one, Picks}
+use Rattle.picking.specs.Picks.{unpicked, Pick, Picking, none_yet, picks_one}
 
 -- whether another key is picked
 abbrev pub more_to_pick : (es : List Entry) (marks : List Bool) (target : ℕ) → Bool
@@ -26,14 +26,3 @@ module _ {H : Type 0} (draws : H → ℕ → ℕ → H → Type 0) where
       subst (λ ms. Picking draws es target begin after ms more) (sym marked)
       (subst (λ ps. Picking draws es target begin after (set marks place true) ps) (sym pushed)
       (picks_one run (ltb-true target _ (and_parts (ltb target (sizes (unpicked marks es))) _ goes).0) (two_left es marks target goes) pick))
-
-  pub run_ends : {es : List Entry} {target : ℕ} {begin after : H} {marks : List Bool} {picked : List Entry}
-      → Picking draws es target begin after marks picked → more_to_pick es marks target ≡ false → Picks draws es target begin picked after
-  run_ends {es} {target} {marks = marks} run done =
-      record {
-        marks = marks;
-        run = run;
-        ended =
-            ⊎_elim (λ e. inl (ltb-false target (sizes (unpicked marks es)) e)) (λ e. inr (leb-false 2 (length (unpicked marks es)) e))
-            (and_cases (ltb target (sizes (unpicked marks es))) (leb 2 (length (unpicked marks es))) done);
-      }

@@ -1,30 +1,48 @@
 -- What marks leave of a table.
-use Rattle.std.proofs.Common.{◌≡◌, ℕ, zero, suc, ◌+◌, ◌<◌, ◌≤◌, Bool, true, false, not, ◌&&◌, List, [], ◌∷◌, length, get_or, drop, set, replicate, Some, None, sum_by, sym, refl, ap, ◌∙◌, arith}
-use Rattle.std.proofs.lemmas.List.{drop_all, drop_more, get_or-set_same, get_or-set_other}
+use Rattle.std.proofs.Common.{◌≡◌, ℕ, zero, suc, ◌+◌, ◌<◌, ◌≤◌, Bool, true, false, not, ◌&&◌, List, [], ◌∷◌, ◌++◌, Bor, Option, length, get_or, drop, set, replicate, Some, None, sum_by, sym, refl, ap, ◌∙◌, arith}
+use Rattle.std.proofs.lemmas.List.{drop_more, get_or-map, get_or-set_same, get_or-set_other, length-map, length_push}
 use Rattle.std.proofs.lemmas.List.Sums.{sum_by-cons}
 use Rattle.std.proofs.lemmas.Bool.{true≢false, and_from, ne_eqb}
+use Rattle.std.specs.declared.iter.Zip.{Zip}
+use Rattle.std.specs.declared.slice.Iter.{Iter}
+use Rattle.std.specs.Iterator.{Yields}
+use Rattle.std.specs.Iterator.Adapters.{zip_first, zip_second}
+use Rattle.std.specs.Slice.Iter.{iter_rest}
+use Rattle.std.proofs.iter.Yields.{fronts}
+use Rattle.std.proofs.lemmas.Iterator.{zips}
+use Rattle.std.proofs.lemmas.Slice.Zip.{zip_turn}
 use Rattle.cache.specs.Tracking.{Entry}
+use Rattle.index.specs.declared.record.KeyRecord.{KeyRecord}
+use Rattle.index.specs.Table.{entry_of, entries_of}
 use Rattle.picking.specs.Picks.{unpicked, available}
 
--- what is left from a place on, by its mark
+-- what is left from a place on
+abbrev pub left_from : List Bool → List KeyRecord → ℕ → List Entry
+left_from marks keys i = unpicked (drop i marks) (drop i (entries_of keys))
+
 unpicked_more : (marks : List Bool) (es : List Entry) (i : ℕ) (d : Entry) → i < length marks → i < length es
     → unpicked (drop i marks) (drop i es) ≡ unpicked (get_or marks i false ∷ drop (i + 1) marks) (get_or es i d ∷ drop (i + 1) es)
 unpicked_more marks es i d m l =
     ap (λ ms. unpicked ms (drop i es)) (drop_more marks i false m)
     ∙ ap (λ fs. unpicked (get_or marks i false ∷ drop (i + 1) marks) fs) (drop_more es i d l)
 
-pub left_unpicked : (marks : List Bool) (es : List Entry) (i : ℕ) (d : Entry) → i < length marks → i < length es
-    → get_or marks i false ≡ false → unpicked (drop i marks) (drop i es) ≡ get_or es i d ∷ unpicked (drop (i + 1) marks) (drop (i + 1) es)
-left_unpicked marks es i d m l e =
-    unpicked_more marks es i d m l ∙ ap (λ b. unpicked (b ∷ drop (i + 1) marks) (get_or es i d ∷ drop (i + 1) es)) e
-
-pub left_picked : (marks : List Bool) (es : List Entry) (i : ℕ) (d : Entry) → i < length marks → i < length es
-    → get_or marks i false ≡ true → unpicked (drop i marks) (drop i es) ≡ unpicked (drop (i + 1) marks) (drop (i + 1) es)
-left_picked marks es i d m l e =
-    unpicked_more marks es i d m l ∙ ap (λ b. unpicked (b ∷ drop (i + 1) marks) (get_or es i d ∷ drop (i + 1) es)) e
-
-pub left_none : (marks : List Bool) (es : List Entry) (i : ℕ) → length es ≤ i → unpicked (drop i marks) (drop i es) ≡ []
-left_none marks es i l = ap (unpicked (drop i marks)) (drop_all i es l)
+-- one pair of a key and its mark further in a loop over both
+pub pair_left : (keys : List KeyRecord) (marks : List Bool) (xs : List (Bor KeyRecord × Bor Bool)) (s t u : Zip (Iter KeyRecord) (Iter Bool)) (r : Option (Bor KeyRecord × Bor Bool))
+    → iter_rest (zip_first s) ≡ keys → iter_rest (zip_second s) ≡ marks → Yields (zips fronts fronts) s xs t → (p : Bor KeyRecord × Bor Bool) → r ≡ Some p
+    → zips fronts fronts t r u
+    → (p.1.now ≡ true → left_from marks keys (length xs) ≡ left_from marks keys (length (xs ++ p ∷ [])))
+    × (p.1.now ≡ false → left_from marks keys (length xs) ≡ entry_of p.0.now ∷ left_from marks keys (length (xs ++ p ∷ [])))
+pair_left keys marks xs s t u r first second so_far p is steps =
+    let turn = zip_turn keys marks xs s t u r first second so_far p is steps in
+    let i = length xs in
+    let e = entry_of p.0.now in
+    let within : i < length (entries_of keys) = let n = length-map keys entry_of in let l = turn.0 in omega arith in
+    let read : get_or (entries_of keys) i e ≡ e = get_or-map entry_of keys i p.0.now e turn.0 ∙ ap entry_of (sym (turn.2 p.0.now)) in
+    let more = unpicked_more marks (entries_of keys) i e turn.1 within in
+    let next : length (xs ++ p ∷ []) ≡ i + 1 = length_push xs p in (
+      (λ picked. rw next (more ∙ ap (λ b. unpicked (b ∷ drop (i + 1) marks) (get_or (entries_of keys) i e ∷ drop (i + 1) (entries_of keys))) (sym (turn.3 false) ∙ picked))),
+      (λ kept. rw next (more ∙ ap (λ b. unpicked (b ∷ drop (i + 1) marks) (get_or (entries_of keys) i e ∷ drop (i + 1) (entries_of keys))) (sym (turn.3 false) ∙ kept) ∙ ap (λ x. x ∷ unpicked (drop (i + 1) marks) (drop (i + 1) (entries_of keys))) read)),
+    )
 
 -- no mark, nothing picked
 pub unpicked_none : (n : ℕ) (es : List Entry) → unpicked (replicate n false) es ≡ es

@@ -21,6 +21,10 @@ differs (Some j) i = not (i == j)
 abbrev pub available : (marks : List Bool) (but : Option ℕ) → ℕ → Bool
 available marks but i = not (slice_index_or marks i false) && differs but i
 
+-- an index below n may be drawn
+abbrev pub SomeAvailable : (n : ℕ) (marks : List Bool) (but : Option ℕ) → Type 0
+SomeAvailable n marks but = (j : ℕ) × (j < n) × (available marks but j ≡ true)
+
 -- i is the next available index behind `last`, going round at n
 pub record NextRound (n : ℕ) (marks : List Bool) (but : Option ℕ) (last i : ℕ) : Type 0 where
   pub steps : ℕ

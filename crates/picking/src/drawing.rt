@@ -1,73 +1,53 @@
 // Draws of an index that is not picked yet.
-ghost use Rattle.std.specs.Prelude.{◌≡◌, ℕ, ◌+◌, ◌%◌, ◌<◌, ◌≤◌, true};
-ghost use Rattle.picking.specs.Picks.{available, differs, Drawn, NextRound};
+ghost use Rattle.std.specs.Prelude.{◌≡◌, ◌<◌, length};
+ghost use Rattle.picking.specs.Picks.{available, SomeAvailable, Drawn, NextRound};
 
-use crate::marks::Marks;
+use crate::candidates::Candidates;
 use hosts::Host;
 
 // How often the host is asked before the round.
-fn most_draws() -> usize
-    ensures { result ≡ 64 }
-{
-    64
-}
+const MOST_DRAWS: usize = 64;
 
-fn differs_from(but: Option<usize>, i: usize) -> bool
-    ensures { result ≡ differs but i }
-{
-    match but {
-        None => true,
-        Some(other) => i != other,
+impl<'a> Candidates<'a> {
+    // Whether an index may be drawn: not picked yet, and another than this, if there is one.
+    fn is_available(&self, but: Option<usize>, i: usize) -> bool
+        requires { i < length self.now.keys.now }
+        ensures { result ≡ available self.now.picked but i }
+    {
+        !self.picked[i] && but != Some(i)
     }
-}
 
-fn is_available(marks: &Marks, but: Option<usize>, i: usize) -> bool
-    requires { i < 256 }
-    ensures { result ≡ available marks.now.picked but i }
-{
-    marks.is_unpicked(i) && differs_from(but, i)
-}
+    // The next available index behind the last, going round.
+    fn next_round(&self, but: Option<usize>, last: usize) -> usize
+        requires last_within { last < length self.now.keys.now }
+        requires some { SomeAvailable (length self.now.keys.now) self.now.picked but }
+        ensures next { NextRound (length self.now.keys.now) self.now.picked but last result }
+        ensures within { result < length self.now.keys.now }
+    {
+        (last + 1..self.keys.len())
+            .chain(0..last + 1)
+            .find(|i| self.is_available(but, *i))
+            .unwrap()
+    }
 
-// So many steps behind the last, going round at n.
-fn behind(last: usize, steps: usize, n: usize) -> usize
-    requires { (1 ≤ n) × (n ≤ 256) × (last < n) × (steps ≤ n) }
-    ensures { (result ≡ (last + steps) % n) × (result < n) }
-{
-    let place = last + steps;
-    place % n
-}
-
-// The next available index behind the last.
-fn next_round(marks: &Marks, n: usize, but: Option<usize>, last: usize) -> usize
-    requires { ((1 ≤ n) × (n ≤ 256) × (last < n)) × (((j : ℕ) × (j < n) × (available marks.now.picked but j ≡ true))) }
-    ensures { NextRound n marks.now.picked but last result × (result < n) }
-{
-    for steps in 1..=n {
-        let i = behind(last, steps, n);
-        if is_available(marks, but, i) {
-            return i;
+    // By one of at most 64 draws, else by the round: so it ends with every host.
+    pub(crate) fn pick_random_available_index<H: Host>(
+        &self,
+        host: &mut H,
+        but: Option<usize>,
+    ) -> usize
+        requires { SomeAvailable (length self.now.keys.now) self.now.picked but }
+        ensures drawn { Drawn H.draws (length self.now.keys.now) self.now.picked but host.old result host.new }
+        ensures within { result < length self.now.keys.now }
+    {
+        let n = self.keys.len();
+        let mut last = 0;
+        for _tried in 0..MOST_DRAWS {
+            last = host.draw(n);
+            if self.is_available(but, last) {
+                return last;
+            }
         }
+        self.next_round(but, last)
     }
-    unreachable()
-}
-
-// By one of at most 64 draws, else by the round: so it ends with every host.
-pub(crate) fn pick_random_available_index<H: Host>(
-    host: &mut H,
-    marks: &Marks,
-    n: usize,
-    but: Option<usize>,
-) -> usize
-    requires { ((1 ≤ n) × (n ≤ 256)) × (((j : ℕ) × (j < n) × (available marks.now.picked but j ≡ true))) }
-    ensures drawn { Drawn H.draws n marks.now.picked but host.old result host.new }
-    ensures within { result < n }
-{
-    let mut last = 0;
-    for _tried in 0..most_draws() {
-        last = host.draw(n);
-        if is_available(marks, but, last) {
-            return last;
-        }
-    }
-    next_round(marks, n, but, last)
 }

@@ -5,11 +5,11 @@
 // at most 128 draws, two rounds and two passes over the table.
 #![tactic(auto)]
 
+mod candidates;
 mod choice;
 mod counts;
 mod drawing;
 mod laws;
-mod marks;
 mod picks;
 mod targets;
 

@@ -7,14 +7,20 @@
 mod show;
 mod tally;
 
+use lines::for_each_line;
 use planning::{Plan, read_request, words_of};
 use std::io;
-use std::io::{BufRead, BufReader};
-use std::str::from_utf8;
+use std::io::BufReader;
+use std::str::Utf8Error;
 use tally::{Said, Tally};
 
-// Prints what one line comes to.
-fn answer_line(rt: &HostRuntime, number: u64, line: &str) -> io::Result<Said> {
+// Prints what one line comes to. A line that is no text is no request.
+fn answer(rt: &HostRuntime, number: u64, line: Result<&str, Utf8Error>) -> io::Result<Said> {
+    let Ok(text) = line else {
+        println!(rt; "line {number}:\n    no request: the line is no text in UTF-8\n")?;
+        return Ok(Said::NoRequest);
+    };
+    let line = text.trim_end();
     let words = words_of(rt.alloc(), line)?;
     if words.is_empty() {
         return Ok(Said::Nothing);
@@ -27,42 +33,19 @@ fn answer_line(rt: &HostRuntime, number: u64, line: &str) -> io::Result<Said> {
         }
         Ok(request) => {
             let plan = Plan::of(request);
-            show::answer(rt, plan.answer)?;
-            show::prefetch(rt, plan, request.part_size)?;
-            show::pieces(rt, plan.answer)?;
-            println!(rt; "")?;
+            show::plan(rt, plan, request.part_size)?;
             Ok(Said::Request(plan))
         }
     }
 }
 
-// A line may be any bytes; one that is no text is no request.
-fn answer_bytes(rt: &HostRuntime, number: u64, bytes: &[u8]) -> io::Result<Said> {
-    match from_utf8(bytes) {
-        Ok(line) => answer_line(rt, number, line.trim_end()),
-        Err(_) => {
-            println!(rt; "line {number}:\n    no request: the line is no text in UTF-8\n")?;
-            Ok(Said::NoRequest)
-        }
-    }
-}
-
-fn answer_all(rt: &HostRuntime) -> io::Result<()> {
-    let mut tally = Tally::new();
-    let mut number: u64 = 0;
-    for line in BufReader::new(rt.alloc(), rt.stdin())?.split(rt.alloc(), b'\n') {
-        let bytes = line?;
-        number = number.saturating_add(1);
-        tally.count(answer_bytes(rt, number, bytes.as_slice())?);
-    }
-    tally.show(rt)
-}
-
 fn main(rt: HostRuntime) -> anyhow::Result<()> {
-    run(&rt)
-}
-
-fn run(rt: &HostRuntime) -> anyhow::Result<()> {
-    answer_all(rt)?;
+    let mut tally = Tally::new();
+    let input = BufReader::new(rt.alloc(), rt.stdin())?;
+    for_each_line(rt.alloc(), input, |number, line| {
+        tally.count(answer(&rt, number, line)?);
+        Ok(())
+    })?;
+    println!(rt; "{tally}")?;
     Ok(())
 }

@@ -1,6 +1,6 @@
 // The lines that are printed for a request.
-use planning::{Answer, Cut, PlacedPiece, Plan, Prefetch, Written};
-use ranges::{ByteRange, GetRange, PartSize};
+use planning::{Cut, NoPrefetch, PlacedPiece, Plan, Prefetch, Written};
+use ranges::{ByteRange, GetRange, PartSize, Piece};
 use std::{fmt, io};
 
 // How many pieces are printed of many: these from the first on, and these up to the last.
@@ -22,74 +22,71 @@ impl fmt::Display for Span {
     }
 }
 
-// What an open with a held head answers.
-pub fn answer(rt: &HostRuntime, answer: Answer) -> io::Result<()> {
-    match answer {
-        Answer::Refused(why) => println!(rt; "    answer     refused 6: {why}"),
-        Answer::Bytes(cut) => {
-            let span = Span(cut.range());
-            println!(rt; "    answer     {span}")
-        }
+// Everything that comes of a request, and an empty line.
+pub fn plan(rt: &HostRuntime, plan: Plan, part_size: PartSize) -> io::Result<()> {
+    match plan.answer {
+        Ok(cut) => println!(rt; "    answer     {}", Span(cut.range()))?,
+        Err(why) => println!(rt; "    answer     refused 6: {why}")?,
     }
+    prefetch(rt, plan, part_size)?;
+    if let Ok(cut) = plan.answer {
+        pieces(rt, &cut)?;
+    }
+    println!(rt; "")
 }
 
 // What comes of the open when no head is held: what goes down, the body that comes back, and the end.
-pub fn prefetch(rt: &HostRuntime, plan: Plan, part_size: PartSize) -> io::Result<()> {
+fn prefetch(rt: &HostRuntime, plan: Plan, part_size: PartSize) -> io::Result<()> {
     let size = part_size.get();
     match plan.prefetch {
-        Prefetch::Overflows(overflow) => {
+        Err(NoPrefetch::Overflows(overflow)) => {
             println!(rt; "    no head    refused 7, nothing goes down: {overflow}")
         }
-        Prefetch::Refused { request, why } => {
+        Err(NoPrefetch::Refused { request, why }) => {
             goes_down(rt, request)?;
             println!(rt; "               refused 6 by the store below: {why}")
         }
-        Prefetch::OffMultiple { request, body } => {
-            let span = Span(body);
+        Err(NoPrefetch::OffMultiple(Prefetch { request, body })) => {
             goes_down(rt, request)?;
-            println!(rt; "               its body {span} begins off a multiple of {size}")?;
+            println!(rt;
+                "               its body {} begins off a multiple of {size}",
+                Span(body)
+            )?;
             println!(rt; "               refused 8: the bytes cannot be filed under part numbers")
         }
-        Prefetch::Body { request, body } => {
-            let span = Span(body);
+        Ok(Prefetch { request, body }) => {
             goes_down(rt, request)?;
-            println!(rt; "               its body {span} begins at a multiple of {size}")?;
-            after_body(rt, plan)
+            println!(rt;
+                "               its body {} begins at a multiple of {size}",
+                Span(body)
+            )?;
+            // The body is read before the request is looked at.
+            if plan.refused_held() {
+                println!(rt; "               refused 6, as the answer is")?;
+            }
+            Ok(())
         }
-    }
-}
-
-// The body is read before the request is looked at.
-fn after_body(rt: &HostRuntime, plan: Plan) -> io::Result<()> {
-    if plan.refused_held() {
-        println!(rt; "               refused 6, as the answer is")
-    } else {
-        Ok(())
     }
 }
 
 fn goes_down(rt: &HostRuntime, request: GetRange) -> io::Result<()> {
-    let range = Written(request);
-    println!(rt; "    no head    {range} goes down")
+    println!(rt; "    no head    {} goes down", Written(request))
 }
 
 // The pieces of an answer: all of a few, the first and the last of many.
-pub fn pieces(rt: &HostRuntime, answer: Answer) -> io::Result<()> {
-    let Answer::Bytes(cut) = answer else {
-        return Ok(());
-    };
+fn pieces(rt: &HostRuntime, cut: &Cut) -> io::Result<()> {
     let len = cut.len();
     if len == 0 {
         return println!(rt; "    pieces     no piece");
     }
     println!(rt; "    pieces     {len}")?;
     if len <= FRONT + BACK {
-        return pieces_between(rt, &cut, 0, len);
+        return pieces_between(rt, cut, 0, len);
     }
-    pieces_between(rt, &cut, 0, FRONT)?;
+    pieces_between(rt, cut, 0, FRONT)?;
     let left_out = len - FRONT - BACK;
     println!(rt; "        .. {left_out} pieces are left out ..")?;
-    pieces_between(rt, &cut, len - BACK, len)
+    pieces_between(rt, cut, len - BACK, len)
 }
 
 // Room for every part number up to `last`.
@@ -101,12 +98,10 @@ fn width(last: u64) -> usize {
     }
 }
 
-// A line for each piece from number `from` to before number `to`.
+// A line for each piece from number `from` to before number `to`: an iterator would step over up to 2^54 others.
 fn pieces_between(rt: &HostRuntime, cut: &Cut, from: u64, to: u64) -> io::Result<()> {
-    let wide = match cut.get(cut.len().saturating_sub(1)) {
-        Some(last) => width(last.piece.part_id as u64),
-        None => 1,
-    };
+    let last = cut.get(cut.len().saturating_sub(1));
+    let wide = last.map_or(1, |placed| width(placed.piece.part_id as u64));
     for i in from..to {
         if let Some(placed) = cut.get(i) {
             show_piece(rt, i, placed, wide)?;
@@ -116,9 +111,11 @@ fn pieces_between(rt: &HostRuntime, cut: &Cut, from: u64, to: u64) -> io::Result
 }
 
 fn show_piece(rt: &HostRuntime, i: u64, placed: PlacedPiece, wide: usize) -> io::Result<()> {
-    let part = placed.piece.part_id;
-    let start = placed.piece.start;
-    let end = placed.piece.end;
+    let Piece {
+        part_id: part,
+        start,
+        end,
+    } = placed.piece;
     let first = placed.start;
     let past = placed.end;
     println!(rt;

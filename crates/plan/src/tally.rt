@@ -1,12 +1,13 @@
 // How many lines came to what.
 ghost use Rattle.std.specs.Prelude.{◌≡◌};
-ghost use Rattle.plan.specs.Tallied.{one_more, Counted};
+ghost use Rattle.plan.specs.Tallied.{Counts, Counted};
 
+use lines::Counter;
 use planning::Plan;
-use std::io;
+use std::fmt;
 
 // What a line said.
-#[derive(Clone, Copy)]
+#[derive(Clone, Copy, Debug, PartialEq, Eq)]
 pub enum Said {
     // blank, or a comment
     Nothing,
@@ -15,30 +16,23 @@ pub enum Said {
 }
 
 // How many requests there were, how many of them are refused, and how many lines are no request.
-#[derive(Clone, Copy)]
+#[derive(Clone, Copy, Debug, PartialEq, Eq)]
 pub struct Tally {
-    requests: u64,
-    refused_held: u64,
-    refused_not_held: u64,
-    no_requests: u64,
-}
-
-// One more where `so`; a count stays at 2^64 - 1.
-fn more(count: u64, so: bool) -> u64
-    ensures { result ≡ one_more count so }
-{
-    if so { count.saturating_add(1) } else { count }
+    requests: Counter,
+    refused_held: Counter,
+    refused_not_held: Counter,
+    no_requests: Counter,
 }
 
 impl Tally {
     pub fn new() -> Tally
-        ensures { (result.requests ≡ 0) × (result.refused_held ≡ 0) × (result.refused_not_held ≡ 0) × (result.no_requests ≡ 0) }
+        ensures { Counts result 0 0 0 0 }
     {
         Tally {
-            requests: 0,
-            refused_held: 0,
-            refused_not_held: 0,
-            no_requests: 0,
+            requests: Counter::new(),
+            refused_held: Counter::new(),
+            refused_not_held: Counter::new(),
+            no_requests: Counter::new(),
         }
     }
 
@@ -48,22 +42,26 @@ impl Tally {
     {
         match said {
             Said::Nothing => {}
-            Said::NoRequest => self.no_requests = more(self.no_requests, true),
+            Said::NoRequest => self.no_requests.add_one(),
             Said::Request(plan) => {
-                self.requests = more(self.requests, true);
-                self.refused_held = more(self.refused_held, plan.refused_held());
-                self.refused_not_held = more(self.refused_not_held, plan.refused_not_held());
+                self.requests.add_one();
+                if plan.refused_held() {
+                    self.refused_held.add_one();
+                }
+                if plan.refused_not_held() {
+                    self.refused_not_held.add_one();
+                }
             }
         }
     }
+}
 
-    pub fn show(&self, rt: &HostRuntime) -> io::Result<()> {
-        let requests = self.requests;
-        let held = self.refused_held;
-        let not_held = self.refused_not_held;
-        let no_requests = self.no_requests;
-        println!(rt;
-            "{requests} requests, {held} refused with a head held and {not_held} with none, {no_requests} lines that are no request"
+impl fmt::Display for Tally {
+    fn fmt<W: fmt::Write>(&self, f: &mut fmt::Formatter<W>) -> fmt::Result {
+        write!(
+            f,
+            "{} requests, {} refused with a head held and {} with none, {} lines that are no request",
+            self.requests, self.refused_held, self.refused_not_held, self.no_requests
         )
     }
 }

@@ -1,4 +1,3 @@
 pub mod Heads
 pub mod Lined
-pub mod Multiples
 pub mod Reading

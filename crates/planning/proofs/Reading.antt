@@ -1,17 +1,16 @@
 -- What is read is what the words say, and words that say a request are read.
-use Rattle.std.proofs.Common.{◌≡◌, ℕ, ◌⊎◌, List, [], ◌∷◌, get_or, Ok, Err, codes, Result, sym, refl, ap, ◌∙◌, subst, inl, inr, ⊎_elim, arith}
+use Rattle.std.proofs.Common.{◌≡◌, ℕ, List, [], ◌∷◌, get_or, Ok, Err, codes, Result, sym, refl, ap, ◌∙◌, subst, inl, inr, ⊎_elim, arith}
 use Rattle.ranges.specs.declared.get_range.GetRange.{GetRange}
 use Rattle.ranges.specs.declared.get_range.GetRange.TheVariants.{All, Bounded, Offset, Suffix}
 use Rattle.planning.specs.declared.request.Field.{Field}
 use Rattle.planning.specs.declared.request.Field.TheVariants as field
-use Rattle.planning.specs.declared.words.Kind.{Kind}
-use Rattle.planning.specs.declared.words.Kind.TheVariants as kind
 use Rattle.planning.specs.declared.request.NoRequest.{NoRequest}
 use Rattle.planning.specs.declared.request.NoRequest.TheVariants.{BadPartSize}
 use Rattle.ranges.specs.Rounding.{PartSized}
 use Rattle.planning.specs.declared.request.Request.{Request}
 use Rattle.planning.specs.Grammar.{texts, Says, SaysRequest, Exact}
-use Rattle.planning.specs.Words.{Word, Number, Begins, First, Done, AfterTail, AfterTo, StartThen, AfterStart, AfterFrom, KindThen, RangeOf, Sized, AfterPart, AfterSize, RequestOf, NoKind, text_of}
+use Rattle.lines.specs.Words.{Word, Number}
+use Rattle.planning.specs.Words.{First, Done, AfterTail, AfterTo, StartThen, AfterStart, AfterFrom, RangeThen, RangeOf, Sized, AfterPart, AfterSize, RequestOf}
 
 ok_same : {A E : Type 0} (x y : A) → ◌≡◌ {A = Result A E} (Ok x) (Ok y) → x ≡ y
 ok_same x y e = cc
@@ -53,22 +52,16 @@ from_ok ws g h =
     let z = first_ok field.Start ws AfterStart g h.reads in
     subst (λ (v : List Word). Says g (codes "from" ∷ texts v)) (sym z.3) (start_ok z.0.now z.2 z.1 g z.4 z.5.reads)
 
-kind_ok : (k : Kind) (ws : List Word) (g : GetRange) → KindThen k ws (Ok g) → Says g (text_of k ∷ texts ws)
-kind_ok kind.All ws g h =
-    let d = done_ok All g ws h in
-    subst (λ (v : List Word). Says g (codes "all" ∷ texts v)) (sym d.0) (subst (λ (x : GetRange). Says x (codes "all" ∷ [])) (sym d.1) refl)
-kind_ok kind.From ws g h = from_ok ws g h
-kind_ok kind.Tail ws g h =
-    let t = tail_ok ws g h in
-    subst (λ (x : GetRange). Says x (codes "tail" ∷ texts ws)) (sym t.4) (t.0, ap (λ (v : List (List ℕ)). codes "tail" ∷ v) t.2, t.3)
-
-range_reads : (ws : List Word) (g : GetRange) → ((e : NoRequest) × NoKind ws e × (◌≡◌ {A = Result GetRange NoRequest} (Ok g) (Err e))) ⊎ ((k : Kind) × (rest : List Word) × Begins ws k rest × KindThen k rest (Ok g)) → Says g (texts ws)
-range_reads ws g (inl z) = absurd (ok_err g z.0 z.2)
-range_reads [] g (inr z) = absurd z.2
-range_reads (w ∷ ws) g (inr z) =
-    let there : Says g (text_of z.0 ∷ texts z.1) = kind_ok z.0 z.1 g z.3 in
-    let same : text_of z.0 ∷ texts z.1 ≡ w.now ∷ texts ws = cc (z.2.0, ap texts z.2.1) in
-    subst (λ (v : List (List ℕ)). Says g v) same there
+range_reads : (ws : List Word) (g : GetRange) → RangeThen ws (Ok g) → Says g (texts ws)
+range_reads [] g z = absurd (ok_err g _ z)
+range_reads (w ∷ ws) g (inl z) =
+    let d = done_ok All g ws z.1 in
+    subst (λ (x : GetRange). Says x (w.now ∷ texts ws)) (sym d.1) (cc (z.0, ap texts d.0))
+range_reads (w ∷ ws) g (inr (inl z)) = subst (λ (v : List ℕ). Says g (v ∷ texts ws)) (sym z.0) (from_ok ws g z.1)
+range_reads (w ∷ ws) g (inr (inr (inl z))) =
+    let t = tail_ok ws g z.1 in
+    subst (λ (x : GetRange). Says x (w.now ∷ texts ws)) (sym t.4) (t.0, cc (z.0, t.2), t.3)
+range_reads (w ∷ ws) g (inr (inr (inr z))) = absurd (ok_err g _ z.3)
 
 range_ok : (ws : List Word) (g : GetRange) → RangeOf ws (Ok g) → Says g (texts ws)
 range_ok ws g h = range_reads ws g h.reads
@@ -158,18 +151,7 @@ from_err ws e (Bounded start end) t h =
     let z = first_err field.Start ws AfterStart e t.0 (codes "to" ∷ t.1 ∷ []) start (rest_same _ _ _ _ t.2) t.3 h.reads in
     shut_err start z.0 e t.1 end z.1 t.4 z.2.reads
 
-kind_err : (k : Kind) (ws : List Word) (e : NoRequest) (g : GetRange) → Says g (text_of k ∷ texts ws) → KindThen k ws (Err e) → ⊥
-kind_err kind.All ws e All t h = done_err All ws e (rest_same _ _ _ _ t) h
-kind_err kind.All ws e (Bounded start end) t h = other_word (codes "all") (codes "from") (head_same _ _ _ _ t.2) (λ x. omega arith)
-kind_err kind.All ws e (Offset start) t h = other_word (codes "all") (codes "from") (head_same _ _ _ _ t.1) (λ x. omega arith)
-kind_err kind.All ws e (Suffix length) t h = other_word (codes "all") (codes "tail") (head_same _ _ _ _ t.1) (λ x. omega arith)
-kind_err kind.From ws e g t h = from_err ws e g t h
-kind_err kind.Tail ws e All t h = other_word (codes "tail") (codes "all") (head_same _ _ _ _ t) (λ x. omega arith)
-kind_err kind.Tail ws e (Bounded start end) t h = other_word (codes "tail") (codes "from") (head_same _ _ _ _ t.2) (λ x. omega arith)
-kind_err kind.Tail ws e (Offset start) t h = other_word (codes "tail") (codes "from") (head_same _ _ _ _ t.1) (λ x. omega arith)
-kind_err kind.Tail ws e (Suffix length) t h = tail_err ws e t.0 length (rest_same _ _ _ _ t.1) t.2 h
-
--- a range begins with the word of a kind
+-- a range begins with one of three words
 says_some : (g : GetRange) → Says g [] → ⊥
 says_some All t = nothing _ _ (sym t)
 says_some (Bounded start end) t = nothing _ _ (sym t.2)
@@ -182,12 +164,24 @@ says_kind (Bounded start end) w ts t a f l = f (head_same _ _ _ _ t.2)
 says_kind (Offset start) w ts t a f l = f (head_same _ _ _ _ t.1)
 says_kind (Suffix length) w ts t a f l = l (head_same _ _ _ _ t.1)
 
-range_refused : (ws : List Word) (g : GetRange) (e : NoRequest) → Says g (texts ws) → ((f : NoRequest) × NoKind ws f × (◌≡◌ {A = Result GetRange NoRequest} (Err e) (Err f))) ⊎ ((k : Kind) × (rest : List Word) × Begins ws k rest × KindThen k rest (Err e)) → ⊥
+all_err : (ws : List Word) (e : NoRequest) (g : GetRange) → Says g (codes "all" ∷ texts ws) → Done All ws (Err e) → ⊥
+all_err ws e All t h = done_err All ws e (rest_same _ _ _ _ t) h
+all_err ws e (Bounded start end) t h = other_word (codes "all") (codes "from") (head_same _ _ _ _ t.2) (λ x. omega arith)
+all_err ws e (Offset start) t h = other_word (codes "all") (codes "from") (head_same _ _ _ _ t.1) (λ x. omega arith)
+all_err ws e (Suffix length) t h = other_word (codes "all") (codes "tail") (head_same _ _ _ _ t.1) (λ x. omega arith)
+
+last_err : (ws : List Word) (e : NoRequest) (g : GetRange) → Says g (codes "tail" ∷ texts ws) → AfterTail ws (Err e) → ⊥
+last_err ws e All t h = other_word (codes "tail") (codes "all") (head_same _ _ _ _ t) (λ x. omega arith)
+last_err ws e (Bounded start end) t h = other_word (codes "tail") (codes "from") (head_same _ _ _ _ t.2) (λ x. omega arith)
+last_err ws e (Offset start) t h = other_word (codes "tail") (codes "from") (head_same _ _ _ _ t.1) (λ x. omega arith)
+last_err ws e (Suffix length) t h = tail_err ws e t.0 length (rest_same _ _ _ _ t.1) t.2 h
+
+range_refused : (ws : List Word) (g : GetRange) (e : NoRequest) → Says g (texts ws) → RangeThen ws (Err e) → ⊥
 range_refused [] g e t z = says_some g t
-range_refused (w ∷ ws) g e t (inl z) = says_kind g w.now (texts ws) t z.1.0 z.1.1 z.1.2
-range_refused (w ∷ ws) g e t (inr z) =
-    let same : w.now ∷ texts ws ≡ text_of z.0 ∷ texts z.1 = cc (z.2.0, ap texts z.2.1) in
-    kind_err z.0 z.1 e g (subst (λ (v : List (List ℕ)). Says g v) same t) z.3
+range_refused (w ∷ ws) g e t (inl z) = all_err ws e g (subst (λ (v : List ℕ). Says g (v ∷ texts ws)) z.0 t) z.1
+range_refused (w ∷ ws) g e t (inr (inl z)) = from_err ws e g (subst (λ (v : List ℕ). Says g (v ∷ texts ws)) z.0 t) z.1
+range_refused (w ∷ ws) g e t (inr (inr (inl z))) = last_err ws e g (subst (λ (v : List ℕ). Says g (v ∷ texts ws)) z.0 t) z.1
+range_refused (w ∷ ws) g e t (inr (inr (inr z))) = says_kind g w.now (texts ws) t z.0 z.1 z.2
 
 part_err : (size : ℕ) (ws : List Word) (q : Request) (e : NoRequest) → Says q.range (texts ws) → AfterPart size q.part_size.bytes ws (Err e) → ⊥
 part_err size ws q e t h =

@@ -4,7 +4,8 @@ use Rattle.ranges.specs.declared.get_range.GetRange.{GetRange}
 use Rattle.ranges.specs.declared.get_range.GetRange.TheVariants.{All, Bounded, Offset, Suffix}
 use Rattle.planning.specs.declared.request.NoRequest.{NoRequest}
 use Rattle.planning.specs.declared.request.Request.{Request}
-use Rattle.planning.specs.Words.{Word, Number, RequestOf}
+use Rattle.lines.specs.Words.{Word, Number}
+use Rattle.planning.specs.Words.{RequestOf}
 
 -- the bytes of each word
 abbrev pub texts : List Word → List (List ℕ)

@@ -1,8 +1,8 @@
 -- The words of a line, up to its comment.
-use Rattle.std.specs.Prelude.{◌≡◌, ℕ, ◌<◌, ◌⊎◌, List, [], ◌∷◌, ◌++◌, length, ◌≢◌, slice_index, slice_index_or}
+use Rattle.std.specs.Prelude.{◌≡◌, ℕ, ◌<◌, ◌⊎◌, List, [], ◌∷◌, ◌++◌, length}
 use Rattle.std.specs.Char.{is_whitespace, is_not_whitespace}
 use Rattle.std.specs.Str.{NoCharPasses, EmptyOrStartsWithPassing}
-use Rattle.planning.specs.Words.{Word}
+use Rattle.lines.specs.Words.{Word, Hashed, Plain}
 
 -- bs is white space, the word w, and rest, which is empty or begins with white space
 pub record FirstWord (bs w rest : List ℕ) : Type 0 where
@@ -12,15 +12,6 @@ pub record FirstWord (bs w rest : List ℕ) : Type 0 where
   pub blank : NoCharPasses is_not_whitespace gap
   pub solid : NoCharPasses is_whitespace w
   pub ends : (more : List ℕ) × EmptyOrStartsWithPassing is_whitespace rest more
-
--- w begins with `#`
-pub record Hashed (w : List ℕ) : Type 0 where
-  pub some : 0 < length w
-  pub first : slice_index_or w 0 0 ≡ 35
-
--- it does not
-pub record Plain (w : List ℕ) : Type 0 where
-  pub first : 0 < length w → slice_index w 0 ≢ 35
 
 -- ws are the words of bs before the first that begins with `#`
 abbrev pub LineOf : List ℕ → List Word → Type 0

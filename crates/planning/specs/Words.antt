@@ -1,31 +1,14 @@
 -- Which words say a request, and what is the first thing wrong with words that say none.
-use Rattle.std.specs.Prelude.{◌≡◌, ℕ, ◌^◌, ◌<◌, ◌⊎◌, List, [], ◌∷◌, Ok, Err, codes, Result, ◌≢◌}
-use Rattle.std.specs.Borrow.{Bor}
-use Rattle.std.specs.Str.Parse.{IsNumeral, digits_value, without_leading_plus}
+use Rattle.std.specs.Prelude.{◌≡◌, ℕ, ◌⊎◌, List, [], ◌∷◌, Ok, Err, codes, Result, ◌≢◌}
+use Rattle.lines.specs.Words.{Word, Number, NoNumber}
 use Rattle.ranges.specs.Rounding.{PartSized}
 use Rattle.ranges.specs.declared.get_range.GetRange.{GetRange}
 use Rattle.ranges.specs.declared.get_range.GetRange.TheVariants.{All, Bounded, Offset, Suffix}
 use Rattle.planning.specs.declared.request.Field.{Field}
 use Rattle.planning.specs.declared.request.Field.TheVariants as field
-use Rattle.planning.specs.declared.words.Kind.{Kind}
-use Rattle.planning.specs.declared.words.Kind.TheVariants as kind
 use Rattle.planning.specs.declared.request.NoRequest.{NoRequest}
 use Rattle.planning.specs.declared.request.NoRequest.TheVariants.{Missing, NotANumber, BadPartSize, UnknownRange, NoTo, Surplus}
 use Rattle.planning.specs.declared.request.Request.{Request}
-
--- a word: its bytes are its `now`
-abbrev pub Word : Type 0
-Word = Bor (List ℕ)
-
--- the word writes n in decimal digits, as Rust reads them: a plus sign may stand before them
-pub record Number (w : List ℕ) (n : ℕ) : Type 0 where
-  pub digits : IsNumeral 10 (without_leading_plus w)
-  pub is : n ≡ digits_value 10 (without_leading_plus w)
-  pub fits : n < 2 ^ 64
-
--- the word writes no number of 64 bits
-pub record NoNumber (w : List ℕ) : Type 0 where
-  pub none : (n : ℕ) → Number w n → ⊥
 
 -- the first word writes n, and `rest` follows it
 abbrev pub Leads : List Word → ℕ → List Word → Type 0
@@ -36,22 +19,6 @@ Leads (w ∷ ws) n rest = Number w.now n × (rest ≡ ws)
 abbrev pub NoLead : Field → List Word → NoRequest → Type 0
 NoLead f [] e = e ≡ Missing f
 NoLead f (w ∷ ws) e = NoNumber w.now × (e ≡ NotANumber f)
-
--- the word for each kind of range
-abbrev pub text_of : Kind → List ℕ
-text_of kind.All = codes "all"
-text_of kind.From = codes "from"
-text_of kind.Tail = codes "tail"
-
--- the first word is that of the kind k, and `rest` follows it
-abbrev pub Begins : List Word → Kind → List Word → Type 0
-Begins [] k rest = ⊥
-Begins (w ∷ ws) k rest = (w.now ≡ text_of k) × (rest ≡ ws)
-
--- no word of a kind is first
-abbrev pub NoKind : List Word → NoRequest → Type 0
-NoKind [] e = e ≡ Missing field.Kind
-NoKind (w ∷ ws) e = (w.now ≢ codes "all") × (w.now ≢ codes "from") × (w.now ≢ codes "tail") × (e ≡ UnknownRange)
 
 -- the words say g, and no word is left
 abbrev pub Done : GetRange → List Word → Result GetRange NoRequest → Type 0
@@ -84,15 +51,15 @@ pub record AfterStart (start : ℕ) (ws : List Word) (r : Result GetRange NoRequ
 pub record AfterFrom (ws : List Word) (r : Result GetRange NoRequest) : Type 0 where
   pub reads : First field.Start ws AfterStart r
 
--- after the word for a kind
-abbrev pub KindThen : Kind → List Word → Result GetRange NoRequest → Type 0
-KindThen kind.All ws r = Done All ws r
-KindThen kind.From ws r = AfterFrom ws r
-KindThen kind.Tail ws r = AfterTail ws r
-
 -- `all`, `from A to B`, `from A` or `tail N`
+abbrev pub RangeThen : List Word → Result GetRange NoRequest → Type 0
+RangeThen [] r = r ≡ Err (Missing field.Kind)
+RangeThen (w ∷ ws) r =
+    ((w.now ≡ codes "all") × Done All ws r) ⊎ ((w.now ≡ codes "from") × AfterFrom ws r) ⊎ ((w.now ≡ codes "tail") × AfterTail ws r)
+    ⊎ ((w.now ≢ codes "all") × (w.now ≢ codes "from") × (w.now ≢ codes "tail") × (r ≡ Err UnknownRange))
+
 pub record RangeOf (ws : List Word) (r : Result GetRange NoRequest) : Type 0 where
-  pub reads : ((e : NoRequest) × NoKind ws e × (r ≡ Err e)) ⊎ ((k : Kind) × (rest : List Word) × Begins ws k rest × KindThen k rest r)
+  pub reads : RangeThen ws r
 
 -- the two sizes, and what the words after them come to
 abbrev pub Sized : (size p : ℕ) → List Word → Result Request NoRequest → Type 0

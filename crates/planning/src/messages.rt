@@ -4,10 +4,11 @@ ghost use Rattle.planning.specs.Messages.{written, field_name, fault_message};
 
 use crate::request::{Field, NoRequest};
 use ranges::GetRange;
+use std::error::Error;
 use std::fmt;
 
 // A range as a line writes it.
-#[derive(Clone, Copy)]
+#[derive(Clone, Copy, Debug, PartialEq, Eq)]
 pub struct Written(pub GetRange);
 
 impl fmt::Display for Written {
@@ -55,3 +56,5 @@ impl fmt::Display for NoRequest {
         }
     }
 }
+
+impl Error for NoRequest {}

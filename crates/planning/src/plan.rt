@@ -9,16 +9,16 @@ use ranges::{
     canonicalize_range,
 };
 
-// What an open with a held head answers: the bytes that are asked for, in pieces, or refusal 6.
-#[derive(Clone, Copy)]
-pub enum Answer {
-    Refused(InvalidGetRange),
-    Bytes(Cut),
+// What goes down when no head is held, and the body that comes back.
+#[derive(Clone, Copy, Debug, PartialEq, Eq)]
+pub struct Prefetch {
+    pub request: GetRange,
+    pub body: ByteRange,
 }
 
-// What comes of the open that goes down when no head is held.
-#[derive(Clone, Copy)]
-pub enum Prefetch {
+// Why the open that goes down fills no part.
+#[derive(Clone, Copy, Debug, PartialEq, Eq)]
+pub enum NoPrefetch {
     // refusal 7, nothing goes down
     Overflows(AlignOverflow),
     // the store below refuses the rounded request as 6
@@ -27,22 +27,15 @@ pub enum Prefetch {
         why: InvalidGetRange,
     },
     // refusal 8: the body begins inside a part
-    OffMultiple {
-        request: GetRange,
-        body: ByteRange,
-    },
-    // the body begins with a part
-    Body {
-        request: GetRange,
-        body: ByteRange,
-    },
+    OffMultiple(Prefetch),
 }
 
-// What comes of a request: its answer, and before it, when no head is held, the prefetch.
-#[derive(Clone, Copy)]
+// What comes of a request: its answer when a head is held, which is the bytes that are asked for, in pieces, or
+// refusal 6; and before it, when no head is held, the prefetch, whose body begins with a part.
+#[derive(Clone, Copy, Debug, PartialEq, Eq)]
 pub struct Plan {
-    pub answer: Answer,
-    pub prefetch: Prefetch,
+    pub answer: Result<Cut, InvalidGetRange>,
+    pub prefetch: Result<Prefetch, NoPrefetch>,
 }
 
 // Whether a part begins at byte `n`.
@@ -53,32 +46,27 @@ fn at_part(n: u64, part_size: PartSize) -> bool
 }
 
 // The bytes that `request` asks for, cut with the parts.
-fn answer_to(request: Request) -> Answer
+fn answer_to(request: Request) -> Result<Cut, InvalidGetRange>
     ensures { Answers request result }
 {
-    match canonicalize_range(request.range, request.object_size) {
-        Err(why) => Answer::Refused(why),
-        Ok(range) => Answer::Bytes(Cut::new(range, request.part_size)),
-    }
+    let range = canonicalize_range(request.range, request.object_size)?;
+    Ok(Cut::new(range, request.part_size))
 }
 
 // The rounded request, and what a store below that has the object would answer it.
-fn prefetch_of(asked: Request) -> Prefetch
+fn prefetch_of(asked: Request) -> Result<Prefetch, NoPrefetch>
     ensures { Fetches asked result }
 {
-    let request = match align_get_range(asked.range, asked.part_size) {
-        Err(overflow) => return Prefetch::Overflows(overflow),
-        Ok(request) => request,
-    };
-    match canonicalize_range(request, asked.object_size) {
-        Err(why) => Prefetch::Refused { request, why },
-        Ok(body) => {
-            if at_part(body.start(), asked.part_size) {
-                Prefetch::Body { request, body }
-            } else {
-                Prefetch::OffMultiple { request, body }
-            }
-        }
+    let request = align_get_range(asked.range, asked.part_size).map_err(NoPrefetch::Overflows)?;
+    let body = canonicalize_range(request, asked.object_size).map_err(|why| NoPrefetch::Refused {
+        request,
+        why,
+    })?;
+    let prefetch = Prefetch { request, body };
+    if at_part(body.start(), asked.part_size) {
+        Ok(prefetch)
+    } else {
+        Err(NoPrefetch::OffMultiple(prefetch))
     }
 }
 
@@ -98,19 +86,13 @@ impl Plan {
     pub fn refused_held(&self) -> bool
         ensures { result ≡ refused_held self.now.answer }
     {
-        match self.answer {
-            Answer::Refused(_) => true,
-            Answer::Bytes(_) => false,
-        }
+        self.answer.is_err()
     }
 
     // Whether an open with no head held is refused: by the prefetch, or by the answer after it.
     pub fn refused_not_held(&self) -> bool
         ensures { result ≡ refused_not_held self.now.prefetch self.now.answer }
     {
-        match self.prefetch {
-            Prefetch::Body { .. } => self.refused_held(),
-            _ => true,
-        }
+        self.prefetch.is_err() || self.refused_held()
     }
 }

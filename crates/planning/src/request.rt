@@ -1,8 +1,11 @@
 // A request, and the ways in which a line is none.
+ghost use Rattle.std.specs.Prelude.{◌≡◌};
+ghost use Rattle.planning.specs.declared.request.NoRequest.TheVariants.{BadPartSize};
+
 use ranges::{GetRange, InvalidCachePartSize, PartSize};
 
 // What is asked of an object of this size, kept in parts of that size.
-#[derive(Clone, Copy)]
+#[derive(Clone, Copy, Debug, PartialEq, Eq)]
 pub struct Request {
     pub object_size: u64,
     pub part_size: PartSize,
@@ -10,7 +13,7 @@ pub struct Request {
 }
 
 // What a word of a request stands for.
-#[derive(Clone, Copy)]
+#[derive(Clone, Copy, Debug, PartialEq, Eq)]
 pub enum Field {
     ObjectSize,
     PartSize,
@@ -25,7 +28,7 @@ pub enum Field {
 }
 
 // The first thing that is wrong with a line, from the left.
-#[derive(Clone, Copy)]
+#[derive(Clone, Copy, Debug, PartialEq, Eq)]
 pub enum NoRequest {
     // the line ends where this word is due
     Missing(Field),
@@ -39,4 +42,12 @@ pub enum NoRequest {
     NoTo,
     // words follow the request
     Surplus,
+}
+
+impl From<InvalidCachePartSize> for NoRequest {
+    ghost from_gives = { λ bad e. e ≡ BadPartSize bad };
+
+    fn from(bad: InvalidCachePartSize) -> NoRequest {
+        NoRequest::BadPartSize(bad)
+    }
 }

@@ -6,23 +6,18 @@ ghost use Rattle.policy.specs.Actions.{get_number, head_number, put_number};
 #[derive(Clone, Copy, Debug, PartialEq, Eq)]
 pub enum GetAction {
     // the call as it came: nothing is looked up, nothing saved
-    Bypass,
+    Bypass = 0,
     // what is held of the path is dropped, fetched again and saved again
-    Refetch,
+    Refetch = 1,
     // served from the cache; what is not held is fetched and saved
-    ReadThrough,
+    ReadThrough = 2,
 }
 
-impl GetAction {
-    // Its number.
-    pub fn number(self) -> u8
-        ensures { result ≡ get_number self }
-    {
-        match self {
-            GetAction::Bypass => 0,
-            GetAction::Refetch => 1,
-            GetAction::ReadThrough => 2,
-        }
+impl From<GetAction> for u8 {
+    ghost from_gives = { λ action n. n ≡ get_number action };
+
+    fn from(action: GetAction) -> u8 {
+        action as u8
     }
 }
 
@@ -30,23 +25,18 @@ impl GetAction {
 #[derive(Clone, Copy, Debug, PartialEq, Eq)]
 pub enum HeadAction {
     // the call as it came: nothing is looked up, nothing saved
-    Bypass,
+    Bypass = 0,
     // a held head is served; one that is fetched is not saved
-    Probe,
+    Probe = 1,
     // a held head is served; one that is fetched is saved
-    ReadThrough,
+    ReadThrough = 2,
 }
 
-impl HeadAction {
-    // Its number.
-    pub fn number(self) -> u8
-        ensures { result ≡ head_number self }
-    {
-        match self {
-            HeadAction::Bypass => 0,
-            HeadAction::Probe => 1,
-            HeadAction::ReadThrough => 2,
-        }
+impl From<HeadAction> for u8 {
+    ghost from_gives = { λ action n. n ≡ head_number action };
+
+    fn from(action: HeadAction) -> u8 {
+        action as u8
     }
 }
 
@@ -54,19 +44,15 @@ impl HeadAction {
 #[derive(Clone, Copy, Debug, PartialEq, Eq)]
 pub enum PutAction {
     // its bytes are saved too
-    Cache,
+    Cache = 1,
     // the cache stays as it is
-    Skip,
+    Skip = 0,
 }
 
-impl PutAction {
-    // Its number.
-    pub fn number(self) -> u8
-        ensures { result ≡ put_number self }
-    {
-        match self {
-            PutAction::Cache => 1,
-            PutAction::Skip => 0,
-        }
+impl From<PutAction> for u8 {
+    ghost from_gives = { λ action n. n ≡ put_number action };
+
+    fn from(action: PutAction) -> u8 {
+        action as u8
     }
 }

@@ -21,8 +21,8 @@ pub trait GetPolicy {
         ensures { result ≡ heads self.now tag };
 }
 
-// The tables of docs/RULES.md.
-#[derive(Clone, Copy, Debug, Default)]
+// The tables of docs/RULES.md. A tag is taken apart by `let else`, the form that docs/DECISIONS.md names for it.
+#[derive(Clone, Copy, Debug, Default, PartialEq, Eq)]
 pub struct DefaultGetPolicy;
 
 impl GetPolicy for DefaultGetPolicy {
@@ -61,8 +61,8 @@ impl GetPolicy for DefaultGetPolicy {
     }
 }
 
-// One set action each, whatever the tag.
-#[derive(Clone, Copy, Debug)]
+// One set action each, whatever the tag. Not one type with `FixedPutPolicy`: that has one action, and other names.
+#[derive(Clone, Copy, Debug, PartialEq, Eq)]
 pub struct FixedGetPolicy {
     pub get: GetAction,
     pub head: HeadAction,

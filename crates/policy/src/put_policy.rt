@@ -22,8 +22,8 @@ pub struct CachePutConfig {
     pub cache_on_compaction: bool,
 }
 
-// The table of docs/RULES.md.
-#[derive(Clone, Copy, Debug)]
+// The table of docs/RULES.md. A tag is taken apart by `let else`, the form that docs/DECISIONS.md names for it.
+#[derive(Clone, Copy, Debug, Default, PartialEq, Eq)]
 pub struct DefaultPutPolicy {
     pub put: CachePutConfig,
 }
@@ -36,20 +36,21 @@ impl PutPolicy for DefaultPutPolicy {
         let Some(tag) = tag else {
             return PutAction::Skip;
         };
-        match tag.sst_type {
-            SstType::Wal => PutAction::Skip,
-            SstType::Compacted => match tag.kind {
-                // the primary store writes by flushes
-                TableStoreKind::Main if self.put.cache_on_flush => PutAction::Cache,
-                TableStoreKind::Compactor if self.put.cache_on_compaction => PutAction::Cache,
-                _ => PutAction::Skip,
-            },
+        match (tag.kind, tag.sst_type) {
+            // the primary store writes by flushes
+            (TableStoreKind::Main, SstType::Compacted) if self.put.cache_on_flush => {
+                PutAction::Cache
+            }
+            (TableStoreKind::Compactor, SstType::Compacted) if self.put.cache_on_compaction => {
+                PutAction::Cache
+            }
+            _ => PutAction::Skip,
         }
     }
 }
 
 // One set action, whatever the tag.
-#[derive(Clone, Copy, Debug)]
+#[derive(Clone, Copy, Debug, PartialEq, Eq)]
 pub struct FixedPutPolicy {
     pub put: PutAction,
 }

@@ -1,28 +1,14 @@
 -- A range cut with its parts has the laws of `Split`.
-use Rattle.std.proofs.Common.{◌≡◌, ℕ, zero, suc, ◌+◌, ◌-◌, ◌*◌, ◌/◌, ◌%◌, ◌<◌, ◌≤◌, min, List, ◌++◌, take, drop, sym, refl, ap, ◌∙◌, ⊎_elim, mul-le-mul_right, mod-lt, add-mul, eq-zero-or-pos, mul-le-mul_left, div-add-mod', mul-one, add-one, arith}
-use native.Mathlib.Decide.{dec_lt}
-use Rattle.std.proofs.lemmas.List.{take-append-drop, take-take, drop-take, drop-drop}
+use Rattle.std.proofs.Common.{◌≡◌, ℕ, zero, suc, ◌+◌, ◌-◌, ◌*◌, ◌/◌, ◌%◌, ◌<◌, ◌≤◌, min, List, ◌++◌, take, drop, sym, refl, ap, ◌∙◌, ⊎_elim, mul-le-mul_right, mod-lt, add-mul, eq-zero-or-pos, div-add-mod', add-one, arith}
+use Rattle.std.proofs.Math.Seq.{take-add}
+use Rattle.std.proofs.lemmas.List.{drop-drop}
 use Rattle.ranges.specs.Pieces.{part_at, cut_begin, cut_end, bytes_of, joined_pieces, part_count, Met, PartAt}
 use Rattle.ranges.specs.Rounding.{Multiple, Down, Up}
-use Rattle.ranges.proofs.Rounds.{times_more, times_past, up_same, down_same}
-
--- a front and what follows it
-take_then : (m k : ℕ) (ys : List ℕ) → take m ys ++ take k (drop m ys) ≡ take (m + k) ys
-take_then m k ys =
-    let front : take m (take (m + k) ys) ≡ take m ys = take-take m (m + k) ys (omega arith) in
-    let back : drop m (take (m + k) ys) ≡ take k (drop m ys) = drop-take m k ys in
-    let whole : take m (take (m + k) ys) ++ drop m (take (m + k) ys) ≡ take (m + k) ys = take-append-drop m (take (m + k) ys) in
-    cc
+use Rattle.ranges.proofs.Rounds.{times_past, up_same, down_same}
 
 -- bytes up to b, and then up to c
 bytes_then : (xs : List ℕ) (a b c : ℕ) → a ≤ b → b ≤ c → bytes_of xs a b ++ bytes_of xs b c ≡ bytes_of xs a c
-bytes_then xs a b c h k =
-    let at_b : a + (b - a) ≡ b = omega arith in
-    let wide : (b - a) + (c - b) ≡ c - a = omega arith in
-    let there : drop (b - a) (drop a xs) ≡ drop b xs = drop-drop (b - a) a xs ∙ ap (λ n. drop n xs) at_b in
-    let both : take (b - a) (drop a xs) ++ take (c - b) (drop (b - a) (drop a xs)) ≡ take ((b - a) + (c - b)) (drop a xs) =
-    take_then (b - a) (c - b) (drop a xs) in
-    cc
+bytes_then xs a b c h k = grind (arith, take-add (b - a) (c - b) (drop a xs), drop-drop (b - a) a xs)
 
 module _ (p start end : ℕ) (h : 0 < p) (f : start ≤ end) where
   -- the first part behind the range
@@ -30,28 +16,13 @@ module _ (p start end : ℕ) (h : 0 < p) (f : start ≤ end) where
   past = end / p + min 1 (end % p)
 
   past_up : Up p end (past * p)
-  past_up =
-      ⊎_elim
-      (λ (e : end % p ≡ 0).
-      let same : past ≡ end / p = omega arith in
-      let there : past * p ≡ end / p * p = ap (λ k. k * p) same in
-      record { multiple = (past, refl); not_before = omega (arith, div-add-mod' end p); near = omega (arith, div-add-mod' end p) })
-      (λ (e : 0 < end % p).
-      let same : past ≡ end / p + 1 = omega arith in
-      let there : past * p ≡ (end / p + 1) * p = ap (λ k. k * p) same in
-      let more = times_more p (end / p) in
-      record { multiple = (past, refl); not_before = omega (arith, div-add-mod' end p, mod-lt end h); near = omega (arith, div-add-mod' end p) })
-      (eq-zero-or-pos (end % p))
+  past_up = record { multiple = (past, refl); not_before = grind (arith, mod-lt end h); near = grind (arith, mod-lt end h) }
 
   first_down : Down p start (start / p * p)
   first_down = record { multiple = (start / p, refl); not_beyond = omega (arith, div-add-mod' start p); near = omega (arith, div-add-mod' start p, mod-lt start h) }
 
   first_past : start / p ≤ past
-  first_past =
-      elim (dec_lt past (start / p)) [
-        | no n ↦ omega (arith, n)
-        | yes l ↦ absurd (omega (arith, times_past p past (start / p) l, first_down.not_beyond, past_up.not_before))
-      ]
+  first_past = grind arith
 
   abbrev count : ℕ
   count = part_count p start end
@@ -63,12 +34,10 @@ module _ (p start end : ℕ) (h : 0 < p) (f : start ≤ end) where
 
   -- every part but the first begins behind the range's start
   later_at : (i : ℕ) → 0 < i → start < part_at p start i * p
-  later_at i b =
-      let l : start / p < part_at p start i = omega arith in
-      omega (arith, times_past p (start / p) (part_at p start i) l, first_down.near)
+  later_at i b = grind arith
 
   near_at : (i : ℕ) → start < part_at p start i * p + p
-  near_at i = omega (arith, mul-le-mul_right {m = start / p} {n = part_at p start i} p (omega arith), first_down.near)
+  near_at i = grind arith
 
   stops_at : (i : ℕ) → count ≤ i → end ≤ part_at p start i * p
   stops_at i b = omega (arith, mul-le-mul_right {m = past} {n = part_at p start i} p (omega (arith, first_past)), past_up.not_before)
@@ -83,13 +52,11 @@ module _ (p start end : ℕ) (h : 0 < p) (f : start ≤ end) where
       omega arith
 
   first_of : cut_begin p start 0 ≡ start
-  first_of = let here : part_at p start 0 * p ≡ start / p * p = ap (λ k. k * p) (omega arith) in omega (arith, first_down.not_beyond)
+  first_of = grind arith
 
   -- the next part begins where this one ends
   begin_more : (i : ℕ) → part_at p start (i + 1) * p ≡ part_at p start i * p + p
-  begin_more i =
-      let there : part_at p start (i + 1) * p ≡ (part_at p start i + 1) * p = ap (λ k. k * p) (omega arith) in
-      there ∙ times_more p (part_at p start i)
+  begin_more i = grind arith
 
   next_of : (i : ℕ) → i + 1 < count → cut_begin p start (i + 1) ≡ cut_end p start end i
   next_of i b = omega (arith, begin_more i, exists_at (i + 1) b, later_at (i + 1) (omega arith))
@@ -98,7 +65,7 @@ module _ (p start end : ℕ) (h : 0 < p) (f : start ≤ end) where
   last_of i b = omega (arith, begin_more i, stops_at (i + 1) (omega arith))
 
   end_within : (i : ℕ) → start ≤ cut_end p start end i
-  end_within i = omega (arith, near_at i)
+  end_within i = grind arith
 
   joined_to : (m : ℕ) (xs : List ℕ) → m < count → joined_pieces p start end xs (suc m) ≡ bytes_of xs start (cut_end p start end m)
   unfolding joined_pieces
@@ -134,12 +101,7 @@ module _ (p start end : ℕ) (h : 0 < p) (f : start ≤ end) where
       ⊎_elim (λ (z : start % p ≡ 0). absurd (n (start / p, omega (arith, div-add-mod' start p)))) (λ (z : 0 < start % p). omega arith) (eq-zero-or-pos (start % p))
 
   between_of : start ≡ end → Multiple p start → count ≡ 0
-  between_of e m =
-      let quotient : start / p ≡ end / p = ap (λ k. k / p) e in
-      let rest : start % p ≡ end % p = ap (λ k. k % p) e in
-      let here : start ≡ start / p * p =
-      down_same p start start (start / p * p) (record { multiple = m; not_beyond = omega arith; near = omega arith }) first_down in
-      omega (arith, div-add-mod' start p)
+  between_of e m = grind (arith, down_same p start start (start / p * p) (record { multiple = m; not_beyond = omega arith; near = omega arith }) first_down)
 
   pub met : Met p start end (start / p) past
   met = record {
@@ -163,5 +125,4 @@ module _ (p start end : ℕ) (h : 0 < p) (f : start ≤ end) where
   part_met i b = record { number = refl; place = refl; exists = exists_at i b; near = near_at i }
 
   pub part_small : (i : ℕ) → i < count → part_at p start i < end
-  part_small i b =
-      omega (arith, exists_at i b, mul-le-mul_left {m = 1} {n = p} (part_at p start i) (omega arith), mul-one (part_at p start i))
+  part_small i b = grind arith

@@ -1,50 +1,20 @@
 -- The definitions allow one answer, and give the worked examples.
-use Rattle.std.proofs.Common.{◌≡◌, ℕ, ◌-◌, ◌^◌, ◌<◌, ◌≤◌, sym, refl, ◌∙◌, inl, inr, arith, lit<, lit≤}
+use Rattle.std.proofs.Common.{◌≡◌, ℕ, ◌-◌, ◌^◌, refl, inl, inr, arith, lit<, lit≤}
 use native.Mathlib.Decide.{dec_lt}
 use Rattle.ranges.specs.declared.get_range.GetRange.{GetRange}
-use Rattle.ranges.specs.declared.get_range.GetRange.TheVariants.{All, Bounded, Offset, Suffix}
 use Rattle.ranges.specs.Exact.{Determined, WorkedExamples}
 use Rattle.ranges.specs.Pieces.{Split}
 use Rattle.ranges.specs.Refusals.{Refusal}
 use Rattle.ranges.specs.Requests.{Canonical, Refuses}
 use Rattle.ranges.specs.Rounding.{Overflows}
 use Rattle.ranges.proofs.Cuts.{met}
-use Rattle.ranges.proofs.Rounds.{up_same, down_same, rest_of}
+use Rattle.ranges.proofs.Rounds.{up_same, down_same}
 
-module _ (g : GetRange) (size a b c d : ℕ) (x : Canonical g size a b) (y : Canonical g size c d) where
-  -- a byte of one is a byte of the other
-  crosses : (i : ℕ) → a ≤ i → i < b → (c ≤ i) × (i < d)
-  crosses i l h = y.all i (x.only i l h)
-
-module _ (g : GetRange) (size a b c d : ℕ) (x : Canonical g size a b) (y : Canonical g size c d) where
-  same_bytes : (a ≡ c) × (b ≡ d)
-  same_bytes =
-      elim (dec_lt a b) [
-        | yes l ↦
-            let first : (c ≤ a) × (a < d) = crosses g size a b c d x y a (omega arith) l in
-            let final : (c ≤ b - 1) × (b - 1 < d) = crosses g size a b c d x y (b - 1) (omega arith) (omega arith) in
-            let start : (a ≤ c) × (c < b) = crosses g size c d a b y x c (omega arith) (omega arith) in
-            let stop : (a ≤ d - 1) × (d - 1 < b) = crosses g size c d a b y x (d - 1) (omega arith) (omega arith) in
-            (omega arith, omega arith)
-        | no n ↦ elim (dec_lt c d) [
-          | yes l ↦
-              let first : (a ≤ c) × (c < b) = crosses g size c d a b y x c (omega arith) l in
-              absurd (n (omega arith))
-          | no m ↦
-              let e : a ≡ b = omega (arith, n, x.forward) in
-              let f : c ≡ d = omega (arith, m, y.forward) in
-              (omega (arith, x.empty e, y.empty f), omega (arith, x.empty e, y.empty f))
-        ]
-      ]
+same_bytes : (g : GetRange) (size a b c d : ℕ) → Canonical g size a b → Canonical g size c d → (a ≡ c) × (b ≡ d)
+same_bytes g size a b c d x y = grind arith
 
 same_refusal : (g : GetRange) (size : ℕ) (e f : Refusal) → Refuses g size e → Refuses g size f → e ≡ f
-same_refusal All size e f x y = absurd x
-same_refusal (Bounded start end) size e f (inl x) (inl y) = x.1 ∙ sym y.1
-same_refusal (Bounded start end) size e f (inl x) (inr y) = absurd (omega arith)
-same_refusal (Bounded start end) size e f (inr x) (inl y) = absurd (omega arith)
-same_refusal (Bounded start end) size e f (inr x) (inr y) = x.2 ∙ sym y.2
-same_refusal (Offset start) size e f x y = x.1 ∙ sym y.1
-same_refusal (Suffix length) size e f x y = absurd x
+same_refusal g size e f x y = grind arith
 
 same_number : (p start end m n : ℕ) → Split p start end m → Split p start end n → m ≡ n
 same_number p start end m n x y =
@@ -58,7 +28,7 @@ determined = record { canonical = same_bytes; refusal = same_refusal; down = dow
 
 -- 2^64 - 1 lies 1,023 past a multiple
 overflows : Overflows 1024 (2 ^ 64 - 1)
-overflows = (rest_of 1024 (2 ^ 64 - 1) (lit< tt)).over (lit< tt) (lit≤ tt)
+overflows = grind arith
 
 pub worked_examples : WorkedExamples
 worked_examples = record {

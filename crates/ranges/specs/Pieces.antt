@@ -1,6 +1,5 @@
 -- A range cut with the parts of an object. Part number k holds the bytes from k × p to before (k + 1) × p.
-use Rattle.std.specs.Prelude.{◌≡◌, ℕ, zero, suc, ◌+◌, ◌-◌, ◌*◌, ◌/◌, ◌%◌, ◌<◌, ◌≤◌, min, max, List, [], ◌++◌, take, drop, Some, None, Option}
-use Rattle.ranges.specs.declared.pieces.Piece.{Piece}
+use Rattle.std.specs.Prelude.{◌≡◌, ℕ, zero, suc, ◌+◌, ◌-◌, ◌*◌, ◌/◌, ◌%◌, ◌<◌, ◌≤◌, min, max, List, [], ◌++◌, take, drop}
 use Rattle.ranges.specs.Rounding.{Multiple, Down, Up}
 
 -- the i-th part that a range from `start` on meets: the first is the one that holds byte `start`
@@ -67,8 +66,3 @@ pub record PartAt (p start end i part begin : ℕ) : Type 0 where
   pub place : begin ≡ part * p
   pub exists : begin < end
   pub near : start < begin + p
-
--- one call of the iterator: the piece at `next`, while there is one
-abbrev pub Steps : (p start end n next : ℕ) → Option Piece → (after : ℕ) → Type 0
-Steps p start end n next None after = (n ≤ next) × (after ≡ next)
-Steps p start end n next (Some q) after = (next < n) × (after ≡ next + 1) × PieceAt p start end next q.part_id q.start q.end

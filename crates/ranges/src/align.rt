@@ -9,19 +9,17 @@ pub fn align_get_range(range: GetRange, part_size: PartSize) -> Result<GetRange,
     ensures { AlignedTo part_size.bytes range result }
 {
     match range {
-        GetRange::All => Ok(GetRange::All),
+        GetRange::All => Ok(range),
         GetRange::Bounded(start, end) => {
-            let Some(end_aligned) = part_size.round_up(end) else {
-                return Err(AlignOverflow { requested: end });
-            };
+            let end_aligned = part_size
+                .round_up(end)
+                .ok_or(AlignOverflow { requested: end })?;
             Ok(GetRange::Bounded(part_size.round_down(start), end_aligned))
         }
         GetRange::Offset(offset) => Ok(GetRange::Offset(part_size.round_down(offset))),
-        GetRange::Suffix(length) => {
-            let Some(length_aligned) = part_size.round_up(length) else {
-                return Err(AlignOverflow { requested: length });
-            };
-            Ok(GetRange::Suffix(length_aligned))
-        }
+        GetRange::Suffix(length) => part_size
+            .round_up(length)
+            .map(GetRange::Suffix)
+            .ok_or(AlignOverflow { requested: length }),
     }
 }

@@ -5,7 +5,7 @@ ghost use Rattle.ranges.specs.Refusals.{of_get_range, inconsistent};
 use crate::get_range::InvalidGetRange;
 
 // The bytes from `start` to before `end`.
-#[derive(Clone, Copy)]
+#[derive(Clone, Copy, Debug, PartialEq, Eq)]
 pub struct ByteRange {
     start: u64,
     end: u64,

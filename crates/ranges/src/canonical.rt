@@ -10,27 +10,17 @@ pub fn canonicalize_range(range: GetRange, object_size: u64) -> Result<ByteRange
 {
     match range {
         GetRange::All => ByteRange::new(0, object_size),
-        GetRange::Bounded(start, end) => {
-            if start >= object_size {
-                return Err(InvalidGetRange::StartTooLarge {
-                    requested: start,
-                    length: object_size,
-                });
-            }
-            if start >= end {
-                return Err(InvalidGetRange::Inconsistent { start, end });
-            }
-            ByteRange::new(start, end.min(object_size))
+        GetRange::Bounded(start, _) | GetRange::Offset(start) if start >= object_size => {
+            Err(InvalidGetRange::StartTooLarge {
+                requested: start,
+                length: object_size,
+            })
         }
-        GetRange::Offset(offset) => {
-            if offset >= object_size {
-                return Err(InvalidGetRange::StartTooLarge {
-                    requested: offset,
-                    length: object_size,
-                });
-            }
-            ByteRange::new(offset, object_size)
+        GetRange::Bounded(start, end) if start >= end => {
+            Err(InvalidGetRange::Inconsistent { start, end })
         }
+        GetRange::Bounded(start, end) => ByteRange::new(start, end.min(object_size)),
+        GetRange::Offset(start) => ByteRange::new(start, object_size),
         GetRange::Suffix(length) => ByteRange::new(object_size.saturating_sub(length), object_size),
     }
 }

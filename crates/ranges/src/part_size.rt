@@ -1,12 +1,12 @@
 // The size of a part, and rounding to its multiples.
 ghost use Rattle.std.specs.Prelude.{◌≡◌, ◌^◌, ◌<◌, MatchOption, MatchResult};
 ghost use Rattle.ranges.specs.Refusals.{of_part_size, invalid_part_size};
-ghost use Rattle.ranges.specs.Rounding.{PartSized, Down, Up, Overflows, Rest};
+ghost use Rattle.ranges.specs.Rounding.{PartSized, Down, Up, Overflows};
 
 use crate::get_range::InvalidCachePartSize;
 
 // How many bytes each part of an object has, but for its last.
-#[derive(Clone, Copy)]
+#[derive(Clone, Copy, Debug, PartialEq, Eq)]
 pub struct PartSize {
     bytes: u64,
     ghost sized: { PartSized bytes },
@@ -17,10 +17,11 @@ impl PartSize {
     pub fn new(bytes: u64) -> Result<PartSize, InvalidCachePartSize>
         ensures { MatchResult result (λ p. PartSized bytes × (p.bytes ≡ bytes)) (λ e. (PartSized bytes → ⊥) × (of_part_size e ≡ invalid_part_size bytes)) }
     {
-        if bytes < 1024 || bytes > 16384 || bytes % 1024 != 0 {
-            return Err(InvalidCachePartSize { requested: bytes });
+        if (1024..=16384).contains(&bytes) && bytes.is_multiple_of(1024) {
+            Ok(PartSize { bytes })
+        } else {
+            Err(InvalidCachePartSize { requested: bytes })
         }
-        Ok(PartSize { bytes })
     }
 
     // In bytes.
@@ -30,32 +31,18 @@ impl PartSize {
         self.bytes
     }
 
-    // How far `n` lies past a multiple.
-    fn rest(self, n: u64) -> u64
-        ensures { Rest self.bytes n result }
-    {
-        n % self.bytes
-    }
-
     // The largest multiple that is not beyond `n`.
     pub fn round_down(self, n: u64) -> u64
         ensures { Down self.bytes n result }
     {
-        n - self.rest(n)
+        n - n % self.bytes
     }
 
     // The smallest multiple that is not before `n`, where a u64 holds it.
+    #[tactic(auto, using(crate::proofs::Rounds::up_of, crate::proofs::Rounds::overflows_of))]
     pub fn round_up(self, n: u64) -> Option<u64>
         ensures { MatchOption result (Overflows self.bytes n) (λ m. Up self.bytes n m × (m < 2 ^ 64)) }
     {
-        let rest = self.rest(n);
-        if rest == 0 {
-            return Some(n);
-        }
-        let more = self.bytes - rest;
-        if n > u64::MAX - more {
-            return None;
-        }
-        Some(n + more)
+        n.checked_next_multiple_of(self.bytes)
     }
 }

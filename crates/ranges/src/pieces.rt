@@ -17,7 +17,7 @@ pub struct Piece {
 }
 
 // The pieces of a range, in order; made by `split_range_into_parts`.
-#[derive(Clone, Copy)]
+#[derive(Clone, Copy, Debug, PartialEq, Eq)]
 pub struct Pieces {
     pub(crate) range: ByteRange,
     pub(crate) part_size: PartSize,

@@ -1,6 +1,7 @@
 // Cutting a range with the parts of an object.
 ghost use Rattle.std.specs.Prelude.{◌≡◌, ◌+◌, ◌-◌, ◌<◌, ◌≤◌, MatchOption};
-ghost use Rattle.ranges.specs.Pieces.{Split, Met, PartAt, PieceAt, Steps};
+ghost use Rattle.ranges.specs.Cut.{IsPart, IsPiece, Steps};
+ghost use Rattle.ranges.specs.Pieces.{Split, Met};
 ghost use Rattle.std.specs.Iterator.{at_most};
 
 use crate::byte_range::ByteRange;
@@ -8,6 +9,7 @@ use crate::part_size::PartSize;
 use crate::pieces::{Piece, Pieces};
 
 // The first part that the range meets, and the first behind its end.
+#[tactic(auto, using(crate::proofs::Cuts::met))]
 fn parts_met(range: ByteRange, part_size: PartSize) -> (u64, u64)
     ensures { Met part_size.bytes range.start range.end result.0 result.1 }
 {
@@ -37,10 +39,25 @@ impl Pieces {
         self.len
     }
 
+    // The range that is cut.
+    pub fn range(&self) -> ByteRange
+        ensures { result ≡ self.now.range }
+    {
+        self.range
+    }
+
+    // The size of the parts that cut it.
+    pub fn part_size(&self) -> PartSize
+        ensures { result ≡ self.now.part_size }
+    {
+        self.part_size
+    }
+
     // The i-th part that the range meets, and where it begins.
+    #[tactic(auto, using(crate::proofs::Cuts::part_small, crate::proofs::Cuts::part_met))]
     fn part(&self, i: u64) -> (u64, u64)
         requires { i < self.now.len }
-        ensures { PartAt self.now.part_size.bytes self.now.range.start self.now.range.end i result.0 result.1 }
+        ensures { IsPart self.now i result.0 result.1 }
     {
         let part = self.first + i;
         (part, part * self.part_size.get())
@@ -48,7 +65,7 @@ impl Pieces {
 
     // The i-th piece, counted from 0, where there is one.
     pub fn get(&self, i: u64) -> Option<Piece>
-        ensures { MatchOption result (self.now.len ≤ i) (λ q. (i < self.now.len) × PieceAt self.now.part_size.bytes self.now.range.start self.now.range.end i q.part_id q.start q.end) }
+        ensures { MatchOption result (self.now.len ≤ i) (λ q. (i < self.now.len) × IsPiece self.now i q) }
     {
         if i >= self.len {
             return None;
@@ -74,8 +91,8 @@ impl Pieces {
     }
 }
 
-// Gives the pieces of a range one after the other.
-#[derive(Clone, Copy)]
+// Gives the pieces of a range one after the other. `next` is a number, since a piece is worked out from its own.
+#[derive(Clone, Copy, Debug, PartialEq, Eq)]
 pub struct PiecesIter {
     pieces: Pieces,
     next: u64,
@@ -84,14 +101,12 @@ pub struct PiecesIter {
 impl Iterator for PiecesIter {
     type Item = Piece;
 
-    ghost next_gives = { λ s r t. (t.pieces ≡ s.pieces) × Steps s.pieces.part_size.bytes s.pieces.range.start s.pieces.range.end s.pieces.len s.next r t.next };
+    ghost next_gives = { λ s r t. (t.pieces ≡ s.pieces) × Steps s.pieces s.next r t.next };
 
     ghost remaining = { λ s. at_most (s.pieces.len - s.next) };
 
     fn next(&mut self) -> Option<Piece> {
-        let Some(piece) = self.pieces.get(self.next) else {
-            return None;
-        };
+        let piece = self.pieces.get(self.next)?;
         self.next += 1;
         Some(piece)
     }

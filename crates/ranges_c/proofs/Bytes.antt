@@ -1,7 +1,8 @@
 -- Numbers that are written one after the other.
-use Rattle.std.proofs.Common.{◌≡◌, ℕ, ◌+◌, ◌*◌, ◌<◌, ◌≤◌, List, [], ◌∷◌, ◌++◌, length, get_or, take, drop, refl, ap, ◌∙◌, append_assoc, append-nil, arith}
+use Rattle.std.proofs.Common.{◌≡◌, ℕ, ◌+◌, ◌*◌, ◌<◌, ◌≤◌, List, [], ◌∷◌, ◌++◌, length, get_or, take, drop, refl, ap, ◌∙◌, append_assoc, arith}
 use borrow.Rule.Slice.PartMut.{put_mid}
-use Rattle.std.proofs.lemmas.List.{take_at, drop_at, drop-drop, take_more, take_all, length-take-le}
+use Rattle.std.proofs.lemmas.List.{take_at, drop_at, drop-drop, take_more, length-take-le}
+use Rattle.std.proofs.lemmas.Grind.{flat_map-append}
 use Rattle.ranges_c.specs.Numbers.{low_first, in_bytes}
 
 pub length_in_bytes : (ns : List ℕ) → length (in_bytes ns) ≡ 8 * length ns
@@ -11,8 +12,7 @@ length_in_bytes (n ∷ ns) = omega (arith, length_in_bytes ns)
 
 in_bytes_push : (ns : List ℕ) (n : ℕ) → in_bytes (ns ++ n ∷ []) ≡ in_bytes ns ++ low_first n
 unfolding in_bytes
-in_bytes_push [] n = append-nil (low_first n)
-in_bytes_push (m ∷ ns) n = ap (λ bs. low_first m ++ bs) (in_bytes_push ns n)
+in_bytes_push ns n = flat_map-append low_first ns (n ∷ [])
 
 pub in_bytes_none : (out : List ℕ) → out ≡ in_bytes [] ++ out
 unfolding in_bytes
@@ -33,10 +33,3 @@ module _ (ns before out part : List ℕ) (i k : ℕ) (below : i < length ns) (ro
       let more : in_bytes (take (i + 1) ns) ≡ front ++ low_first (get_or ns i 0) = ap in_bytes (take_more ns i 0 below) ∙ in_bytes_push (take i ns) (get_or ns i 0) in
       let joins = append_assoc front (low_first (get_or ns i 0)) (drop (8 * (i + 1)) before) in
       cc
-
--- all of them
-pub store_all : (ns before out : List ℕ) (i : ℕ) → out ≡ in_bytes (take i ns) ++ drop (8 * i) before → i ≡ length ns → out ≡ in_bytes ns ++ drop (8 * length ns) before
-store_all ns before out i so_far e =
-    let whole : take i ns ≡ ns = take_all i ns (omega arith) in
-    let place : drop (8 * i) before ≡ drop (8 * length ns) before = ap (λ m. drop (8 * m) before) e in
-    cc

@@ -1,5 +1,6 @@
 -- Numbers as bytes in a slice.
-use Rattle.std.specs.Prelude.{ℕ, ◌/◌, ◌%◌, ◌^◌, List, [], ◌∷◌, ◌++◌}
+use Rattle.std.specs.Prelude.{ℕ, ◌/◌, ◌%◌, ◌^◌, List, [], ◌∷◌}
+use Rattle.std.specs.List.{flat_map}
 
 -- a number below 2^64 as eight bytes, low byte first
 abbrev pub low_first : ℕ → List ℕ
@@ -9,5 +10,4 @@ low_first n =
 
 -- numbers one after the other
 unfoldable pub in_bytes : List ℕ → List ℕ
-in_bytes [] = []
-in_bytes (n ∷ ns) = low_first n ++ in_bytes ns
+in_bytes ns = flat_map low_first ns

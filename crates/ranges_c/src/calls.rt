@@ -1,4 +1,4 @@
-// The calls: one for each kind of range, so that no unknown kind can be asked for.
+// The calls: one for each kind of range, since C has no `GetRange`, and no unknown kind can be asked for.
 // A request for all of an object has no number to round, and so no call that rounds it.
 ghost use Rattle.ranges.specs.declared.get_range.GetRange.TheVariants.{All, Bounded, Offset, Suffix};
 ghost use Rattle.ranges_c.specs.Answers.{Canonicalizes, Aligns, Splits};

@@ -4,7 +4,7 @@ ghost use Rattle.ranges_c.specs.Status.{status};
 
 use ranges::{AlignOverflow, InvalidCachePartSize, InvalidGetRange};
 
-#[derive(Clone, Copy)]
+#[derive(Clone, Copy, Debug, PartialEq, Eq)]
 pub enum Refused {
     PartSize(InvalidCachePartSize),
     SliceTooShort,
@@ -12,7 +12,7 @@ pub enum Refused {
     Align(AlignOverflow),
 }
 
-// 0, or the refusal's number with 256 times its reason.
+// 0, or the refusal's number with 256 times its reason: C has no `Result`.
 pub(crate) fn status_of(answer: Result<(), Refused>) -> u64
     ensures { result ≡ status answer }
 {

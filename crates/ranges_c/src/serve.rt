@@ -16,24 +16,19 @@ pub(crate) fn canonicalize(range: GetRange, size: u64, out: &mut [u8]) -> Result
     if out.len() < 16 {
         return Err(Refused::SliceTooShort);
     }
-    match canonicalize_range(range, size) {
-        Ok(bytes) => {
-            store(out, &[bytes.start(), bytes.end()]);
-            Ok(())
-        }
-        Err(e) => Err(Refused::Range(e)),
-    }
+    let bytes = canonicalize_range(range, size).map_err(Refused::Range)?;
+    store(out, &[bytes.start(), bytes.end()]);
+    Ok(())
 }
 
-// How many bytes the numbers of a request take.
+// How many bytes the numbers of a request take. Not one function with the next: a list of them would be a buffer more.
 fn room(range: GetRange) -> usize
     ensures { result ≡ 8 * length (numbers_of range) }
 {
     match range {
         GetRange::All => 0,
         GetRange::Bounded(_, _) => 16,
-        GetRange::Offset(_) => 8,
-        GetRange::Suffix(_) => 8,
+        GetRange::Offset(_) | GetRange::Suffix(_) => 8,
     }
 }
 
@@ -45,8 +40,7 @@ fn store_request(out: &mut [u8], range: GetRange)
     match range {
         GetRange::All => store(out, &[]),
         GetRange::Bounded(start, end) => store(out, &[start, end]),
-        GetRange::Offset(start) => store(out, &[start]),
-        GetRange::Suffix(length) => store(out, &[length]),
+        GetRange::Offset(number) | GetRange::Suffix(number) => store(out, &[number]),
     }
 }
 
@@ -54,22 +48,13 @@ fn store_request(out: &mut [u8], range: GetRange)
 pub(crate) fn align(range: GetRange, part_size: u64, out: &mut [u8]) -> Result<(), Refused>
     ensures { AlignAnswer range part_size out.old result out.new }
 {
-    let part_size = match PartSize::new(part_size) {
-        Ok(p) => p,
-        Err(e) => {
-            return Err(Refused::PartSize(e));
-        }
-    };
+    let part_size = PartSize::new(part_size).map_err(Refused::PartSize)?;
     if out.len() < room(range) {
         return Err(Refused::SliceTooShort);
     }
-    match align_get_range(range, part_size) {
-        Ok(aligned) => {
-            store_request(out, aligned);
-            Ok(())
-        }
-        Err(e) => Err(Refused::Align(e)),
-    }
+    let aligned = align_get_range(range, part_size).map_err(Refused::Align)?;
+    store_request(out, aligned);
+    Ok(())
 }
 
 // The number of pieces, and the piece with this index where there is one.
@@ -82,21 +67,11 @@ pub(crate) fn split(
 ) -> Result<(), Refused>
     ensures { SplitAnswer start end part_size index out.old result out.new }
 {
-    let part_size = match PartSize::new(part_size) {
-        Ok(p) => p,
-        Err(e) => {
-            return Err(Refused::PartSize(e));
-        }
-    };
+    let part_size = PartSize::new(part_size).map_err(Refused::PartSize)?;
     if out.len() < 32 {
         return Err(Refused::SliceTooShort);
     }
-    let range = match ByteRange::new(start, end) {
-        Ok(r) => r,
-        Err(e) => {
-            return Err(Refused::Range(e));
-        }
-    };
+    let range = ByteRange::new(start, end).map_err(Refused::Range)?;
     let pieces = split_range_into_parts(range, part_size);
     match pieces.get(index) {
         Some(piece) => store(

@@ -7,7 +7,7 @@ mod short;
 mod tests;
 
 use planning::{Plan, read_request, words_of};
-use short::{ShortAnswer, ShortBody, ShortDown, ShortPieces};
+use short::Short;
 use std::io;
 use std::io::{BufRead, BufReader};
 
@@ -16,25 +16,15 @@ fn show_case(rt: &HostRuntime, line: &str) -> io::Result<()> {
     if words.is_empty() {
         return Ok(());
     }
-    let Ok(request) = read_request(words.as_slice()) else {
-        return println!(rt; "no request");
-    };
-    let plan = Plan::of(request);
-    let answer = ShortAnswer(plan.answer);
-    let down = ShortDown(plan.prefetch);
-    let body = ShortBody(plan.prefetch);
-    let pieces = ShortPieces(plan.answer);
-    println!(rt; "{answer} | {down} | {body} | {pieces}")
-}
-
-fn run(rt: &HostRuntime) -> anyhow::Result<()> {
-    for line in BufReader::new(rt.alloc(), rt.stdin())?.lines(rt.alloc()) {
-        let text = line?;
-        show_case(rt, text.as_str())?;
+    match read_request(words.as_slice()) {
+        Ok(request) => println!(rt; "{}", Short(Plan::of(request))),
+        Err(_) => println!(rt; "no request"),
     }
-    Ok(())
 }
 
 fn main(rt: HostRuntime) -> anyhow::Result<()> {
-    run(&rt)
+    for line in BufReader::new(rt.alloc(), rt.stdin())?.lines(rt.alloc()) {
+        show_case(&rt, line?.as_str())?;
+    }
+    Ok(())
 }

@@ -1,25 +1,35 @@
-// The four parts of a line.
-use planning::{Answer, Cut, Prefetch, Written};
-use ranges::{ByteRange, InvalidGetRange};
+// What comes of a request, on one short line.
+use planning::{Cut, NoPrefetch, PlacedPiece, Plan, Prefetch, Written};
+use ranges::{ByteRange, InvalidGetRange, Piece};
 use std::fmt;
 
-// `start end`
+// A value as a line says it.
 #[derive(Clone, Copy)]
-struct Span(ByteRange);
+pub struct Short<T>(pub T);
 
-impl fmt::Display for Span {
+// The four parts of a line.
+impl fmt::Display for Short<Plan> {
     fn fmt<W: fmt::Write>(&self, f: &mut fmt::Formatter<W>) -> fmt::Result {
-        let start = self.0.start();
-        let end = self.0.end();
-        write!(f, "{start} {end}")
+        let Plan { answer, prefetch } = self.0;
+        let range = Short(answer.map(|cut| cut.range()));
+        let body = ShortBody(prefetch);
+        write!(f, "{range} | {} | {body} | ", Short(prefetch))?;
+        match answer {
+            Ok(cut) => write!(f, "{}", Short(cut)),
+            Err(_) => write!(f, "-"),
+        }
+    }
+}
+
+// `start end`
+impl fmt::Display for Short<ByteRange> {
+    fn fmt<W: fmt::Write>(&self, f: &mut fmt::Formatter<W>) -> fmt::Result {
+        write!(f, "{} {}", self.0.start(), self.0.end())
     }
 }
 
 // `6`, the reason and its numbers
-#[derive(Clone, Copy)]
-struct Bad(InvalidGetRange);
-
-impl fmt::Display for Bad {
+impl fmt::Display for Short<InvalidGetRange> {
     fn fmt<W: fmt::Write>(&self, f: &mut fmt::Formatter<W>) -> fmt::Result {
         match self.0 {
             InvalidGetRange::StartTooLarge { requested, length } => {
@@ -32,98 +42,66 @@ impl fmt::Display for Bad {
     }
 }
 
-// The answer with a head held.
-#[derive(Clone, Copy)]
-pub struct ShortAnswer(pub Answer);
-
-impl fmt::Display for ShortAnswer {
+// The bytes, or why there are none.
+impl fmt::Display for Short<Result<ByteRange, InvalidGetRange>> {
     fn fmt<W: fmt::Write>(&self, f: &mut fmt::Formatter<W>) -> fmt::Result {
         match self.0 {
-            Answer::Refused(why) => {
-                let bad = Bad(why);
-                write!(f, "{bad}")
-            }
-            Answer::Bytes(cut) => {
-                let span = Span(cut.range());
-                write!(f, "{span}")
-            }
+            Ok(range) => write!(f, "{}", Short(range)),
+            Err(why) => write!(f, "{}", Short(why)),
         }
     }
 }
 
 // The rounded request, or `7` and the number that does not round.
-#[derive(Clone, Copy)]
-pub struct ShortDown(pub Prefetch);
-
-impl fmt::Display for ShortDown {
+impl fmt::Display for Short<Result<Prefetch, NoPrefetch>> {
     fn fmt<W: fmt::Write>(&self, f: &mut fmt::Formatter<W>) -> fmt::Result {
-        let request = match self.0 {
-            Prefetch::Overflows(overflow) => {
-                let requested = overflow.requested;
-                return write!(f, "7 {requested}");
-            }
-            Prefetch::Refused { request, .. } => request,
-            Prefetch::OffMultiple { request, .. } => request,
-            Prefetch::Body { request, .. } => request,
-        };
-        let range = Written(request);
-        write!(f, "{range}")
+        match self.0 {
+            Err(NoPrefetch::Overflows(overflow)) => write!(f, "7 {}", overflow.requested),
+            Err(NoPrefetch::Refused { request, .. })
+            | Err(NoPrefetch::OffMultiple(Prefetch { request, .. }))
+            | Ok(Prefetch { request, .. }) => write!(f, "{}", Written(request)),
+        }
     }
 }
 
 // What the store below answers it, with an `8` behind a body that begins inside a part.
 #[derive(Clone, Copy)]
-pub struct ShortBody(pub Prefetch);
+struct ShortBody(Result<Prefetch, NoPrefetch>);
 
 impl fmt::Display for ShortBody {
     fn fmt<W: fmt::Write>(&self, f: &mut fmt::Formatter<W>) -> fmt::Result {
         match self.0 {
-            Prefetch::Overflows(_) => write!(f, "-"),
-            Prefetch::Refused { why, .. } => {
-                let bad = Bad(why);
-                write!(f, "{bad}")
-            }
-            Prefetch::OffMultiple { body, .. } => {
-                let span = Span(body);
-                write!(f, "{span} 8")
-            }
-            Prefetch::Body { body, .. } => {
-                let span = Span(body);
-                write!(f, "{span}")
-            }
+            Err(NoPrefetch::Overflows(_)) => write!(f, "-"),
+            Err(NoPrefetch::Refused { why, .. }) => write!(f, "{}", Short(why)),
+            Err(NoPrefetch::OffMultiple(prefetch)) => write!(f, "{} 8", Short(prefetch.body)),
+            Ok(prefetch) => write!(f, "{}", Short(prefetch.body)),
         }
     }
 }
 
-// The i-th piece as `part:start-end`, or `-`.
-#[derive(Clone, Copy)]
-struct ShortPiece(Cut, u64);
-
-impl fmt::Display for ShortPiece {
+// How many pieces, the first, the second and the last.
+impl fmt::Display for Short<Cut> {
     fn fmt<W: fmt::Write>(&self, f: &mut fmt::Formatter<W>) -> fmt::Result {
-        let Some(placed) = self.0.get(self.1) else {
-            return write!(f, "-");
-        };
-        let part = placed.piece.part_id;
-        let start = placed.piece.start;
-        let end = placed.piece.end;
-        write!(f, "{part}:{start}-{end}")
+        let cut = self.0;
+        let len = cut.len();
+        let [first, second, last] = [0, 1, len.saturating_sub(1)].map(|i| Short(cut.get(i)));
+        write!(f, "{len} {first} {second} {last}")
     }
 }
 
-// How many pieces, the first, the second and the last.
-#[derive(Clone, Copy)]
-pub struct ShortPieces(pub Answer);
-
-impl fmt::Display for ShortPieces {
+// A piece as `part:start-end`, or `-`.
+impl fmt::Display for Short<Option<PlacedPiece>> {
     fn fmt<W: fmt::Write>(&self, f: &mut fmt::Formatter<W>) -> fmt::Result {
-        let Answer::Bytes(cut) = self.0 else {
-            return write!(f, "-");
-        };
-        let len = cut.len();
-        let first = ShortPiece(cut, 0);
-        let second = ShortPiece(cut, 1);
-        let last = ShortPiece(cut, len.saturating_sub(1));
-        write!(f, "{len} {first} {second} {last}")
+        match self.0 {
+            None => write!(f, "-"),
+            Some(placed) => {
+                let Piece {
+                    part_id,
+                    start,
+                    end,
+                } = placed.piece;
+                write!(f, "{part_id}:{start}-{end}")
+            }
+        }
     }
 }

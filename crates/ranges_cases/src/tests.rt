@@ -1,15 +1,11 @@
-// The pieces of a range, by a `for`.
+// The pieces of a range, from their iterator.
 use ranges::{ByteRange, PartSize, Piece, split_range_into_parts};
 use std::test::Fail;
 
 #[test]
 fn pieces_in_order(rt: HostRuntime) -> Result<(), Fail> {
-    let Ok(part_size) = PartSize::new(1024) else {
-        return Err(Fail::new("no part size"));
-    };
-    let Ok(range) = ByteRange::new(1000, 1100) else {
-        return Err(Fail::new("no range"));
-    };
+    let part_size = PartSize::new(1024).map_err(|_| Fail::new("no part size"))?;
+    let range = ByteRange::new(1000, 1100).map_err(|_| Fail::new("no range"))?;
     let first = Piece {
         part_id: 0,
         start: 1000,
@@ -20,13 +16,9 @@ fn pieces_in_order(rt: HostRuntime) -> Result<(), Fail> {
         start: 0,
         end: 76,
     };
-    let pieces = split_range_into_parts(range, part_size);
-    let mut seen = 0u64;
-    for piece in pieces.iter() {
-        let expected = if seen == 0 { first } else { last };
-        assert_eq!(rt; piece, expected);
-        seen = seen.saturating_add(1);
-    }
-    assert_eq!(rt; seen, 2);
+    let pieces: Vec<Piece> = split_range_into_parts(range, part_size)
+        .iter()
+        .collect(rt.alloc())?;
+    assert_eq!(rt; pieces.as_slice(), [first, last].as_slice());
     Ok(())
 }

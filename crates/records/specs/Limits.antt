@@ -1,6 +1,7 @@
 -- The limits of records, and their refusals.
 use Rattle.std.specs.Prelude.{◌≡◌, ℕ, ◌^◌, ◌<◌, ◌≤◌, ◌⊎◌, [], ◌∷◌}
 use Rattle.ranges.specs.Refusals.{Refusal}
+use Rattle.records.specs.declared.label.LabelKind.{LabelKind}
 use Rattle.records.specs.declared.refused.BufferTooShort.{BufferTooShort}
 use Rattle.records.specs.declared.refused.InvalidPath.{InvalidPath}
 use Rattle.records.specs.declared.refused.InvalidHead.{InvalidHead}
@@ -53,3 +54,8 @@ of_head (Value n) = invalid_head 7 n
 abbrev pub HeadRefused : (size time : ℕ) → Refusal → Type 0
 HeadRefused size time f =
     ((2 ^ 40 < size) × (f ≡ invalid_head 1 size)) ⊎ (SizeWithin size × (2 ^ 42 ≤ time) × (f ≡ invalid_head 2 time))
+
+-- which reason a head has for an e_tag, and for a version, that is too long
+abbrev pub label_reason : LabelKind → ℕ
+label_reason LabelKind.ETag = 3
+label_reason LabelKind.Version = 4

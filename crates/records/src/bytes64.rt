@@ -1,9 +1,13 @@
 // Up to 64 bytes, held in place.
 ghost use Rattle.std.specs.Prelude.{◌≡◌, ◌<◌, ◌≤◌, [], length, MatchOption};
-ghost use Rattle.records.specs.Padded.{Padded, held};
+ghost use Rattle.std.specs.Cmp.{on_equiv, on_per, partial_equiv_from_equiv};
+ghost use Rattle.std.specs.Cmp.Lexicographic.{nat_list_eq_equiv};
+ghost use Rattle.std.specs.Str.{bytes_eq};
+ghost use Rattle.records.specs.Padded.{Padded};
 
-// Equal contents are equal values: the bytes past the length are 0.
-#[derive(Clone, Copy)]
+// Equal contents are equal values: the bytes past the length are 0. An array with a length, since nothing here
+// allocates and keys are copied; no `impl Model`, since functions that pass a path on have then no proof yet.
+#[derive(Clone, Copy, Debug)]
 pub struct Bytes64 {
     pub(crate) bytes: [u8; 64],
     pub(crate) len: usize,
@@ -11,23 +15,23 @@ pub struct Bytes64 {
 }
 
 impl Bytes64 {
+    ghost use Rattle.records.specs.Bytes.{bytes_of};
+
     // The bytes, where there are at most 64.
     pub fn new(bytes: &[u8]) -> Option<Bytes64>
-        ensures { MatchOption result (64 < length bytes.now) (λ b. (length bytes.now ≤ 64) × (held b.len b.bytes ≡ bytes.now)) }
+        ensures { MatchOption result (64 < length bytes.now) (λ b. (length bytes.now ≤ 64) × (bytes_of b ≡ bytes.now)) }
     {
         let len = bytes.len();
         if len > 64 {
             return None;
         }
         let mut held = [0; 64];
-        for (i, b) in bytes.iter().enumerate() {
-            held[i] = *b;
-        }
+        held[0..len].copy_from_slice(bytes);
         Some(Bytes64 { bytes: held, len })
     }
 
     pub fn empty() -> Bytes64
-        ensures { held result.len result.bytes ≡ [] }
+        ensures { bytes_of result ≡ [] }
     {
         Bytes64 {
             bytes: [0; 64],
@@ -36,9 +40,28 @@ impl Bytes64 {
     }
 
     pub fn as_slice(&self) -> &[u8]
-        ensures value { result.now ≡ held self.now.len self.now.bytes }
+        ensures value { result.now ≡ bytes_of self.now }
         ensures len { (length result.now ≡ self.now.len) × (length result.now ≤ 64) }
     {
         &self.bytes[0..self.len]
     }
+}
+
+// By the bytes that are held, where a derive would compare all 64.
+impl PartialEq for Bytes64 {
+    ghost use Rattle.records.specs.Bytes.{bytes_of};
+
+    ghost eq = { λ a b. bytes_eq (bytes_of a) (bytes_of b) };
+
+    ghost laws = { on_per bytes_of (partial_equiv_from_equiv nat_list_eq_equiv) };
+
+    fn eq(&self, other: &Bytes64) -> bool {
+        self.as_slice() == other.as_slice()
+    }
+}
+
+impl Eq for Bytes64 {
+    ghost use Rattle.records.specs.Bytes.{bytes_of};
+
+    ghost laws = { on_equiv bytes_of nat_list_eq_equiv };
 }

@@ -7,7 +7,7 @@ use crate::label::Label;
 use crate::refused::InvalidHead;
 
 // The size of the object, when it was last changed, and what its store says of it.
-#[derive(Clone, Copy)]
+#[derive(Clone, Copy, Debug)]
 pub struct Head {
     size: u64,
     // milliseconds since 1970
@@ -61,6 +61,7 @@ impl Head {
     pub fn with_attributes(&self, attributes: Attributes) -> Head
         ensures { (result.size ≡ self.now.size) × (result.time ≡ self.now.time) × (result.e_tag ≡ self.now.e_tag) × (result.version ≡ self.now.version) × (result.attributes ≡ attributes) }
     {
+        // field by field, since `..*self` is not to be had with a ghost field
         Head {
             size: self.size,
             time: self.time,

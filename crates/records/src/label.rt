@@ -1,23 +1,45 @@
 // An e_tag or a version, which may be absent.
 ghost use Rattle.std.specs.Prelude.{◌≡◌, ◌<◌, ◌≤◌, length, Some, None, MatchOption, MatchResult};
 ghost use Rattle.std.specs.Option.{option_map, unwrap_or};
-ghost use Rattle.records.specs.Limits.{of_head, invalid_head};
-ghost use Rattle.records.specs.Padded.{Padded, labelled};
+ghost use Rattle.records.specs.Padded.{Padded};
+ghost use Rattle.records.specs.Limits.{of_head, invalid_head, label_reason};
 
 use crate::bytes64::Bytes64;
 use crate::refused::InvalidHead;
 
-// At most 64 bytes, or absent: the length says which. Present with no bytes is not absent.
-#[derive(Clone, Copy)]
+// Which of the two a label is.
+#[derive(Clone, Copy, Debug, PartialEq, Eq)]
+pub enum LabelKind {
+    ETag,
+    Version,
+}
+
+// At most 64 bytes, or absent: the length says which, the form that docs/DECISIONS.md names for it. Present with no
+// bytes is not absent.
+#[derive(Clone, Copy, Debug, PartialEq, Eq)]
 pub struct Label {
     len: Option<usize>,
     bytes: [u8; 64],
     ghost padded: { Padded 64 (unwrap_or len 0) bytes },
 }
 
+impl LabelKind {
+    // The refusal of a label of too many bytes.
+    fn too_long(self, length: usize) -> InvalidHead
+        ensures { of_head result ≡ invalid_head (label_reason self) length }
+    {
+        match self {
+            LabelKind::ETag => InvalidHead::ETag(length),
+            LabelKind::Version => InvalidHead::Version(length),
+        }
+    }
+}
+
 impl Label {
+    ghost use Rattle.records.specs.Bytes.{label_of};
+
     pub fn absent() -> Label
-        ensures { labelled result.len result.bytes ≡ None }
+        ensures { label_of result ≡ None }
     {
         Label {
             len: None,
@@ -27,11 +49,9 @@ impl Label {
 
     // These bytes, where there are at most 64.
     pub fn present(bytes: &[u8]) -> Option<Label>
-        ensures { MatchOption result (64 < length bytes.now) (λ l. (length bytes.now ≤ 64) × (labelled l.len l.bytes ≡ Some bytes.now)) }
+        ensures { MatchOption result (64 < length bytes.now) (λ l. (length bytes.now ≤ 64) × (label_of l ≡ Some bytes.now)) }
     {
-        let Some(held) = Bytes64::new(bytes) else {
-            return None;
-        };
+        let held = Bytes64::new(bytes)?;
         let bytes = held.bytes;
         Some(Label {
             len: Some(held.len),
@@ -39,29 +59,17 @@ impl Label {
         })
     }
 
-    // An e_tag of these bytes; more than 64 are refusal 3.
-    pub fn e_tag(bytes: &[u8]) -> Result<Label, InvalidHead>
-        ensures { MatchResult result (λ l. (length bytes.now ≤ 64) × (labelled l.len l.bytes ≡ Some bytes.now)) (λ e. (64 < length bytes.now) × (of_head e ≡ invalid_head 3 (length bytes.now))) }
+    // An e_tag or a version of these bytes; more than 64 are refusal 3.
+    pub fn new(kind: LabelKind, bytes: &[u8]) -> Result<Label, InvalidHead>
+        ensures { MatchResult result (λ l. (length bytes.now ≤ 64) × (label_of l ≡ Some bytes.now)) (λ e. (64 < length bytes.now) × (of_head e ≡ invalid_head (label_reason kind) (length bytes.now))) }
     {
-        let Some(label) = Label::present(bytes) else {
-            return Err(InvalidHead::ETag(bytes.len()));
-        };
-        Ok(label)
-    }
-
-    // A version of these bytes; more than 64 are refusal 3.
-    pub fn version(bytes: &[u8]) -> Result<Label, InvalidHead>
-        ensures { MatchResult result (λ l. (length bytes.now ≤ 64) × (labelled l.len l.bytes ≡ Some bytes.now)) (λ e. (64 < length bytes.now) × (of_head e ≡ invalid_head 4 (length bytes.now))) }
-    {
-        let Some(label) = Label::present(bytes) else {
-            return Err(InvalidHead::Version(bytes.len()));
-        };
-        Ok(label)
+        Label::present(bytes).ok_or(kind.too_long(bytes.len()))
     }
 
     pub fn get(&self) -> Option<&[u8]>
-        ensures { option_map (λ x. x.now) result ≡ labelled self.now.len self.now.bytes }
+        ensures { option_map (λ x. x.now) result ≡ label_of self.now }
     {
+        // `map` with a closure would need the bound on the length in a clause of its own
         match self.len {
             None => None,
             Some(len) => Some(&self.bytes[0..len]),

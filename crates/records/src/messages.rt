@@ -1,5 +1,6 @@
 // What the refusals print.
 use crate::refused::{BufferTooShort, InvalidHead, InvalidPath};
+use std::error::Error;
 use std::fmt;
 
 impl fmt::Display for InvalidPath {
@@ -42,3 +43,9 @@ impl fmt::Display for BufferTooShort {
         write!(f, "The buffer has {length} bytes where {needed} are needed")
     }
 }
+
+impl Error for InvalidPath {}
+
+impl Error for InvalidHead {}
+
+impl Error for BufferTooShort {}

@@ -1,6 +1,5 @@
 // The names by which attributes are stored.
-ghost use Rattle.std.specs.Prelude.{◌≡◌, length, Decides};
-ghost use Rattle.std.specs.Str.{bytes_eq};
+ghost use Rattle.std.specs.Prelude.{◌≡◌, length};
 ghost use Rattle.records.specs.Limits.{KeyLong};
 ghost use Rattle.records.specs.Names.{name_of, Named};
 
@@ -8,6 +7,7 @@ use crate::attribute::{Attribute, Key};
 
 impl Attribute {
     // The name of a known attribute, the key of metadata.
+    #[tactic(auto, unfolding(crate::specs::Names::name_of))]
     pub fn name(&self) -> &[u8]
         ensures value { result.now ≡ name_of self.now }
         ensures long { KeyLong (length result.now) }
@@ -22,34 +22,27 @@ impl Attribute {
         }
     }
 
-    // The attribute with this name: a known one by its name, metadata by any other.
+    // The attribute with this name: a known one by its name, metadata by any other. By `==` and not by a `match` on
+    // byte strings, which the check takes apart byte by byte.
     pub fn named(key: Key) -> Attribute
         ensures { Named key result }
     {
         let name = key.as_slice();
-        if same_bytes(name, Attribute::CacheControl.name()) {
+        if name == Attribute::CacheControl.name() {
             return Attribute::CacheControl;
         }
-        if same_bytes(name, Attribute::ContentDisposition.name()) {
+        if name == Attribute::ContentDisposition.name() {
             return Attribute::ContentDisposition;
         }
-        if same_bytes(name, Attribute::ContentEncoding.name()) {
+        if name == Attribute::ContentEncoding.name() {
             return Attribute::ContentEncoding;
         }
-        if same_bytes(name, Attribute::ContentLanguage.name()) {
+        if name == Attribute::ContentLanguage.name() {
             return Attribute::ContentLanguage;
         }
-        if same_bytes(name, Attribute::ContentType.name()) {
+        if name == Attribute::ContentType.name() {
             return Attribute::ContentType;
         }
         Attribute::Metadata(key)
     }
-}
-
-// Byte for byte.
-pub fn same_bytes(a: &[u8], b: &[u8]) -> bool
-    ensures decides { Decides result (a.now ≡ b.now) }
-    ensures value { result ≡ bytes_eq a.now b.now }
-{
-    a == b
 }

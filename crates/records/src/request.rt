@@ -6,7 +6,7 @@ use crate::tag::ObjectStoreCallTag;
 use ranges::GetRange;
 
 // The bytes of an object, by its path, and what the call says of itself.
-#[derive(Clone, Copy)]
+#[derive(Clone, Copy, Debug, PartialEq, Eq)]
 pub struct Request {
     pub path: Path,
     pub tag: Option<ObjectStoreCallTag>,

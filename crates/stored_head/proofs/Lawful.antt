@@ -1,15 +1,16 @@
 -- The laws of stored forms.
-use Rattle.std.proofs.Common.{◌≡◌, ℕ, ◌≤◌, Bool, true, false, cond, ◌||◌, List, [], ◌∷◌, ◌++◌, length, take, Some, None, Option, unwrap_or, sym, refl, ap, ◌∙◌, subst, append_assoc, arith, lit<, lit≤}
+use Rattle.std.proofs.Common.{◌≡◌, ℕ, ◌≤◌, Bool, true, false, cond, ◌||◌, List, [], ◌∷◌, ◌++◌, length, Some, None, Option, unwrap_or, sym, refl, ap, ◌∙◌, subst, append_assoc, arith, lit<, lit≤}
 use Rattle.std.specs.Str.{bytes_eq}
 use Rattle.std.proofs.lemmas.Slice.Eq.{bytes_eq-Decides}
 use Rattle.std.proofs.lemmas.List.{length-take-le, length-map}
 use Rattle.records.specs.declared.attribute.Attribute.{Attribute}
 use Rattle.records.specs.declared.attribute.Attribute.TheVariants.{CacheControl, ContentDisposition, ContentEncoding, ContentLanguage, ContentType, Metadata}
 use Rattle.records.specs.declared.attribute.AttributeEntry.{AttributeEntry}
-use Rattle.records.specs.declared.bytes64.Bytes64.{Bytes64}
 use Rattle.records.specs.Limits.{KeyLong}
 use Rattle.records.specs.Names.{name_of}
-use Rattle.records.specs.Padded.{Padded, held, labelled}
+use Rattle.records.specs.declared.bytes64.Bytes64.{Bytes64}
+use Rattle.records.specs.Bytes.{bytes_of, entries_of}
+use Rattle.records.specs.Padded.{Padded, labelled}
 use Rattle.records.specs.declared.head.Head.{Head}
 use Rattle.stored_head.specs.Forms.{label_form, LabelWithin}
 use Rattle.stored_head.specs.Heads.{HeadData, Named, data_of, pair, pairs, name_in, merged, rest_form, attributes_form, AttributesWithin, Within, Stored}
@@ -17,27 +18,9 @@ use Rattle.stored_head.specs.Laws.{StoredLaws, StoredExample, Distinct, last_val
 use Rattle.stored_head.specs.Loads.{Loaded, LoadAnswer}
 use Rattle.stored_head.specs.Numbers.{Number, single, further}
 use Rattle.stored_head.proofs.Groups.{number_free}
-use Rattle.stored_head.proofs.Reading.{attributes_free}
+use Rattle.stored_head.proofs.Named.{attributes_free}
 use Rattle.stored_head.proofs.Sequence.{label_free}
-
--- a number has one form
-number_once : (a b : List ℕ) (m n : ℕ) → m ≡ n → Number a m → Number b n → a ≡ b
-number_once a b m n e (single i g) (single j h) = ap (λ k. k ∷ []) e
-number_once a b m n e (single i g) (further low high above l p x) = absurd (omega arith)
-number_once a b m n e (further low high above l p x) (single i g) = absurd (omega arith)
-number_once a b m n e (further low high above l p x) (further lower higher other k q y) =
-    let lows : low ≡ lower = omega arith in
-    let highs : high ≡ higher = omega arith in
-    let forms : above ≡ other = number_once above other high higher highs x y in
-    cc
-
-one_form : (d : HeadData) (a b : List ℕ) → Stored d a → Stored d b → a ≡ b
-one_form d a b x y =
-    let sizes : x.size.bytes ≡ y.size.bytes = number_once x.size.bytes y.size.bytes d.size d.size refl x.size.form y.size.form in
-    let times : x.time.bytes ≡ y.time.bytes = number_once x.time.bytes y.time.bytes d.time d.time refl x.time.form y.time.form in
-    let left : a ≡ x.size.bytes ++ (x.time.bytes ++ rest_form d) = x.joined in
-    let right : b ≡ y.size.bytes ++ (y.time.bytes ++ rest_form d) = y.joined in
-    cc
+use Rattle.stored_head.proofs.Whole.{one_form}
 
 abbrev made : (size time : ℕ) (t v : Option (List ℕ)) (named : List Named) → HeadData
 made size time t v named = record { size = size; time = time; e_tag = t; version = v; attributes = named }
@@ -84,12 +67,12 @@ pub stored_example : StoredExample
 unfolding attributes_form
 stored_example = record { size = record { bytes = 220 ∷ 11 ∷ []; form = stored_example_form }; time = record { bytes = 0 ∷ []; form = single 0 (lit< tt) }; joined = refl }
 
-held_long : (b : Bytes64) → (length (held b.len b.bytes) ≡ b.len) × (b.len ≤ 64)
-held_long b = (length-take-le b.len b.bytes (omega (arith, b.padded.0, b.padded.1)), b.padded.1)
-
 label_within : (len : Option ℕ) (bytes : List ℕ) → Padded 64 (unwrap_or len 0) bytes → LabelWithin (labelled len bytes)
 label_within None bytes p = tt
 label_within (Some n) bytes p = omega (arith, length-take-le n bytes (omega (arith, p.0, p.1)), p.1)
+
+held_long : (b : Bytes64) → (length (bytes_of b) ≡ b.len) × (b.len ≤ 64)
+held_long b = (length-take-le b.len b.bytes (omega (arith, b.padded.0, b.padded.1)), b.padded.1)
 
 name_long : (a : Attribute) → KeyLong (length (name_of a))
 unfolding name_of
@@ -107,7 +90,7 @@ attributes_within (e ∷ es) = let long = held_long e.value in (name_long e.attr
 
 within : (h : Head) → Within (data_of h)
 within h =
-    let entries : List AttributeEntry = take h.attributes.len h.attributes.entries in
+    let entries : List AttributeEntry = entries_of h.attributes in
     let count = length-map entries pair in
     let few = length-take-le h.attributes.len h.attributes.entries (omega (arith, h.attributes.whole, h.attributes.few)) in
     record {

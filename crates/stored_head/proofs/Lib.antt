@@ -1,6 +1,5 @@
 pub mod Groups
 pub mod Lawful
-pub mod Marked
 pub mod Merging
 pub mod Named
 pub mod Reading

@@ -1,15 +1,14 @@
 -- The stored form of a head.
-use Rattle.std.specs.Prelude.{◌≡◌, ℕ, ◌<◌, ◌≤◌, Bool, false, cond, ◌||◌, List, [], ◌∷◌, ◌++◌, map, length, take, drop, Some, None, Ok, Err, Option, Result, ◌≢◌}
+use Rattle.std.specs.Prelude.{◌≡◌, ℕ, ◌<◌, ◌≤◌, Bool, false, cond, ◌||◌, List, [], ◌∷◌, ◌++◌, map, length, drop, Some, None, Ok, Err, Option, Result, ◌≢◌}
 use Rattle.std.specs.Str.{bytes_eq}
 use Rattle.records.specs.declared.attribute.AttributeEntry.{AttributeEntry}
-use Rattle.records.specs.declared.attributes.Attributes.{Attributes}
 use Rattle.records.specs.declared.head.Head.{Head}
 use Rattle.records.specs.declared.refused.BufferTooShort.{BufferTooShort}
 use Rattle.records.specs.Limits.{KeyLong, SizeWithin, TimeWithin, of_buffer, buffer_too_short}
 use Rattle.stored_head.specs.declared.local_cache_head.LocalCacheHead.{LocalCacheHead}
 use Rattle.records.specs.Names.{name_of}
-use Rattle.records.specs.Padded.{held, labelled}
-use Rattle.stored_head.specs.Forms.{sized, label_form, LabelWithin, Stands}
+use Rattle.records.specs.Bytes.{bytes_of, label_of, entries_of}
+use Rattle.stored_head.specs.Forms.{sized, label_form, LabelWithin}
 use Rattle.stored_head.specs.Numbers.{Formed}
 
 -- an attribute as it is stored: its name and its value
@@ -17,7 +16,7 @@ abbrev pub Named : Type 0
 Named = List ℕ × List ℕ
 
 abbrev pub pair : AttributeEntry → Named
-pair e = (name_of e.attribute, held e.value.len e.value.bytes)
+pair e = (name_of e.attribute, bytes_of e.value)
 
 abbrev pub pairs : List AttributeEntry → List Named
 pairs es = map pair es
@@ -31,20 +30,24 @@ unfoldable pub AttributesWithin : List Named → Type 0
 AttributesWithin [] = Unit {0}
 AttributesWithin (a ∷ more) = KeyLong (length a.0) × (length a.1 ≤ 64) × AttributesWithin more
 
--- `left` attributes stand at `at`: r has them behind those that were known
-pub record AttributesStand (bytes : List ℕ) (at left : ℕ) (known es : List AttributeEntry) (next : ℕ) : Type 0 where
-  pub added : List Named
-  pub count : length added ≡ left
-  pub within : AttributesWithin added
-  pub joined : pairs es ≡ pairs known ++ added
-  pub stand : Stands bytes at (attributes_form added) next
+-- an attribute comes first, and `rest` is behind it
+pub record EntryFirst (bytes : List ℕ) (e : AttributeEntry) (rest : List ℕ) : Type 0 where
+  pub within : AttributesWithin (pair e ∷ [])
+  pub joined : bytes ≡ sized (pair e).0 ++ (sized (pair e).1 ++ rest)
 
-pub record NoAttributes (bytes : List ℕ) (at left : ℕ) : Type 0 where
-  pub never : (named : List Named) (rest : List ℕ) → length named ≡ left → AttributesWithin named → drop at bytes ≢ attributes_form named ++ rest
+-- none does
+pub record NoEntry (bytes : List ℕ) : Type 0 where
+  pub never : (a : Named) (rest : List ℕ) → AttributesWithin (a ∷ []) → bytes ≢ sized a.0 ++ (sized a.1 ++ rest)
 
-abbrev pub AttributesRead : (bytes : List ℕ) (at left : ℕ) (known : List AttributeEntry) → Option (Attributes × ℕ) → Type 0
-AttributesRead bytes at left known None = NoAttributes bytes at left
-AttributesRead bytes at left known (Some r) = AttributesStand bytes at left known (take r.0.len r.0.entries) r.1
+-- so many attributes come first, and `rest` is behind them
+pub record AttributesFirst (bytes : List ℕ) (count : ℕ) (es : List AttributeEntry) (rest : List ℕ) : Type 0 where
+  pub many : length es ≡ count
+  pub within : AttributesWithin (pairs es)
+  pub joined : bytes ≡ attributes_form (pairs es) ++ rest
+
+-- so many do not
+pub record NoAttributes (bytes : List ℕ) (count : ℕ) : Type 0 where
+  pub never : (named : List Named) (rest : List ℕ) → length named ≡ count → AttributesWithin named → bytes ≢ attributes_form named ++ rest
 
 -- what a stored head tells: kinds of attributes are not stored, only names
 pub record HeadData : Type 0 where
@@ -58,9 +61,9 @@ abbrev pub data_of : Head → HeadData
 data_of h = record {
   size = h.size;
   time = h.time;
-  e_tag = labelled h.e_tag.len h.e_tag.bytes;
-  version = labelled h.version.len h.version.bytes;
-  attributes = pairs (take h.attributes.len h.attributes.entries);
+  e_tag = label_of h.e_tag;
+  version = label_of h.version;
+  attributes = pairs (entries_of h.attributes);
 }
 
 -- the limits of a head

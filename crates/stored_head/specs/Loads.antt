@@ -1,11 +1,12 @@
 -- What a head is once it is loaded.
-use Rattle.std.specs.Prelude.{◌≡◌, ℕ, ◌+◌, Bool, List, [], ◌∷◌, take, drop, Some, None, Option, slice_index_or}
+use Rattle.std.specs.Prelude.{◌≡◌, ℕ, List, [], ◌∷◌, Some, None, Option}
 use Rattle.records.specs.declared.attribute.Attribute.{Attribute}
 use Rattle.records.specs.declared.attribute.Attribute.TheVariants.{CacheControl, ContentDisposition, ContentEncoding, ContentLanguage, ContentType, Metadata}
 use Rattle.records.specs.declared.attribute.AttributeEntry.{AttributeEntry}
 use Rattle.records.specs.declared.head.Head.{Head}
-use Rattle.records.specs.Names.{key_of, Unknown}
-use Rattle.stored_head.specs.Heads.{HeadData, data_of, pair, pairs, name_in, merged, Within, Stored, NoHead}
+use Rattle.records.specs.Bytes.{bytes_of, entries_of}
+use Rattle.records.specs.Names.{Unknown}
+use Rattle.stored_head.specs.Heads.{HeadData, data_of, pair, pairs, merged, Within, Stored, NoHead}
 
 -- an attribute is metadata only where its name is none of the five
 abbrev pub Kind : Attribute → Type 0
@@ -14,7 +15,7 @@ Kind ContentDisposition = Unit {0}
 Kind ContentEncoding = Unit {0}
 Kind ContentLanguage = Unit {0}
 Kind ContentType = Unit {0}
-Kind (Metadata k) = Unknown (key_of k)
+Kind (Metadata k) = Unknown (bytes_of k.name)
 
 unfoldable pub Kinds : List AttributeEntry → Type 0
 Kinds [] = Unit {0}
@@ -24,10 +25,6 @@ Kinds (e ∷ es) = Kind e.attribute × Kinds es
 pub record Renamed (e r : AttributeEntry) : Type 0 where
   pub same : pair r ≡ pair e
   pub kind : Kind r.attribute
-
--- whether the name of the i-th comes again
-pub record Again (es : List AttributeEntry) (i : ℕ) (b : Bool) : Type 0 where
-  pub answer : (e : AttributeEntry) → e ≡ slice_index_or es i e → b ≡ name_in (pair e).0 (pairs (drop (i + 1) es))
 
 -- rs are es by their names, of equal names the later
 pub record Refilled (es rs : List AttributeEntry) : Type 0 where
@@ -41,7 +38,7 @@ merge d = record { size = d.size; time = d.time; e_tag = d.e_tag; version = d.ve
 -- h is the head that d tells of: size, time, e_tag and version as they are, names merged, each attribute of its name's kind
 pub record Loaded (d : HeadData) (h : Head) : Type 0 where
   pub same : data_of h ≡ merge d
-  pub kinds : Kinds (take h.attributes.len h.attributes.entries)
+  pub kinds : Kinds (entries_of h.attributes)
 
 -- the head within its limits that is stored as these bytes, where there is one
 abbrev pub LoadAnswer : (bytes : List ℕ) → Option Head → Type 0

@@ -1,5 +1,5 @@
 -- Numbers as a stored head has them.
-use Rattle.std.specs.Prelude.{◌≡◌, ℕ, ◌+◌, ◌*◌, ◌^◌, ◌<◌, ◌≤◌, List, [], ◌∷◌, ◌++◌, length, take, drop, Some, None, Option, ◌≢◌}
+use Rattle.std.specs.Prelude.{◌≡◌, ℕ, ◌+◌, ◌*◌, ◌^◌, ◌<◌, List, [], ◌∷◌, ◌++◌, ◌≢◌}
 
 -- bs is the stored form of n: groups of seven bits, the lowest first, each but the last with its high bit set,
 -- and as few as there can be, since the last of several is not 0
@@ -12,23 +12,17 @@ pub record Formed (n : ℕ) : Type 0 where
   pub bytes : List ℕ
   pub form : Number bytes n
 
--- at `at` stands the form of n, and the bytes from `next` on behind it
-pub record StandsAt (bytes : List ℕ) (at n next : ℕ) : Type 0 where
+-- the form of a number below 128^(more + 1) comes first, and `rest` is behind it
+pub record NumberFirst (bytes : List ℕ) (more n : ℕ) (rest : List ℕ) : Type 0 where
+  pub below : n < 128 ^ (more + 1)
   pub formed : Formed n
-  pub within : next ≤ length bytes
-  pub place : next ≡ at + length formed.bytes
-  pub joined : drop at bytes ≡ formed.bytes ++ drop next bytes
+  pub joined : bytes ≡ formed.bytes ++ rest
 
--- no number below 128^(more + 1) stands at `at`
-pub record StandsNot (bytes : List ℕ) (at more : ℕ) : Type 0 where
-  pub never : (n : ℕ) (bs rest : List ℕ) → n < 128 ^ (more + 1) → Number bs n → drop at bytes ≢ bs ++ rest
+-- no form of such a number does
+pub record NoNumber (bytes : List ℕ) (more : ℕ) : Type 0 where
+  pub never : (n : ℕ) (bs rest : List ℕ) → n < 128 ^ (more + 1) → Number bs n → bytes ≢ bs ++ rest
 
-abbrev pub NumberRead : (bytes : List ℕ) (at more : ℕ) → Option (ℕ × ℕ) → Type 0
-NumberRead bytes at more None = StandsNot bytes at more
-NumberRead bytes at more (Some r) = (r.0 < 128 ^ (more + 1)) × StandsAt bytes at r.0 r.1
-
--- the form of n was written at `at`, and ends before `next`
-pub record NumberWritten (out : List ℕ) (at n next : ℕ) (after : List ℕ) : Type 0 where
+-- the form of n was written behind what was there
+pub record NumberBehind (before : List ℕ) (n : ℕ) (after : List ℕ) : Type 0 where
   pub formed : Formed n
-  pub place : next ≡ at + length formed.bytes
-  pub joined : after ≡ take at out ++ (formed.bytes ++ drop next out)
+  pub joined : after ≡ before ++ formed.bytes

@@ -1,8 +1,10 @@
 // Byte strings with their lengths. A length is at most 64, and so a number of one group.
-ghost use Rattle.std.specs.Prelude.{◌≡◌, ◌+◌, ◌<◌, ◌≤◌, ◌∷◌, length};
-ghost use Rattle.records.specs.Padded.{labelled};
-ghost use Rattle.stored_head.specs.Forms.{Wrote, sized, label_form, LabelWithin, SizedRead, LabelRead, CountRead};
+ghost use Rattle.std.specs.Prelude.{◌≡◌, ◌+◌, ◌<◌, ◌≤◌, ◌∷◌, ◌++◌, length, MatchOption};
+ghost use Rattle.records.specs.Bytes.{bytes_of, label_of};
+ghost use Rattle.stored_head.specs.Forms.{sized, label_form, NoSized, SizedFirst, NoLabel, LabelFirst, NoCount, CountFirst};
 
+use crate::form::Form;
+use crate::reader::Reader;
 use records::{Bytes64, Label};
 
 // A present e_tag or version of this many bytes is marked by one more; 0 is absent.
@@ -14,106 +16,67 @@ fn present_mark(len: usize) -> u8
 }
 
 // One byte, and bytes behind it.
-fn write_marked(out: &mut [u8], at: usize, mark: u8, bytes: &[u8]) -> usize
-    requires { at + length (mark ∷ bytes.now) ≤ length out.old }
-    ensures { Wrote out.old at (mark ∷ bytes.now) result out.new }
+fn push_marked(form: &mut Form, mark: u8, bytes: &[u8])
+    requires { length form.old.items + length bytes.now < 927 }
+    ensures { form.new.items ≡ form.old.items ++ mark ∷ bytes.now }
 {
-    out[at] = mark;
-    let begin = at + 1;
-    let end = begin + bytes.len();
-    out[begin..end].copy_from_slice(bytes);
-    end
+    form.push(mark);
+    form.try_extend_from_slice(bytes).unwrap();
 }
 
 // A key or a value.
-pub(crate) fn write_sized(out: &mut [u8], at: usize, bytes: &[u8]) -> usize
+pub(crate) fn push_sized(form: &mut Form, bytes: &[u8])
     requires few { length bytes.now ≤ 64 }
-    requires room { at + length (sized bytes.now) ≤ length out.old }
-    ensures { Wrote out.old at (sized bytes.now) result out.new }
+    requires room { length form.old.items + length bytes.now < 927 }
+    ensures { form.new.items ≡ form.old.items ++ sized bytes.now }
 {
-    write_marked(out, at, bytes.len() as u8, bytes)
+    push_marked(form, bytes.len() as u8, bytes);
 }
 
 // An e_tag or a version.
-pub(crate) fn write_label(out: &mut [u8], at: usize, label: &Label) -> usize
-    requires { at + length (label_form (labelled label.now.len label.now.bytes)) ≤ length out.old }
-    ensures { Wrote out.old at (label_form (labelled label.now.len label.now.bytes)) result out.new }
+pub(crate) fn push_label(form: &mut Form, label: &Label)
+    requires { length form.old.items + 64 < 927 }
+    ensures behind { form.new.items ≡ form.old.items ++ label_form (label_of label.now) }
+    ensures bound { length form.new.items ≤ length form.old.items + 65 }
 {
     match label.get() {
-        Some(bytes) => write_marked(out, at, present_mark(bytes.len()), bytes),
-        None => write_marked(out, at, 0, &[]),
+        Some(bytes) => push_marked(form, present_mark(bytes.len()), bytes),
+        None => push_marked(form, 0, &[]),
     }
 }
 
-// How many bytes an e_tag or a version takes.
-pub(crate) fn label_len(label: &Label) -> usize
-    ensures value { result ≡ length (label_form (labelled label.now.len label.now.bytes)) }
-    ensures bound { result ≤ 65 }
-{
-    match label.get() {
-        Some(bytes) => bytes.len() + 1,
-        None => 1,
+impl<'a> Reader<'a> {
+    // The key or value that comes first, of `least` to `most` bytes.
+    pub(crate) fn sized(&mut self, least: usize, most: usize) -> Option<Bytes64>
+        requires { most ≤ 64 }
+        ensures { MatchOption result (NoSized self.old.left.now least most) (λ b. SizedFirst self.old.left.now least most (bytes_of b) self.new.left.now) }
+    {
+        let len = self.byte()? as usize;
+        if !(least..=most).contains(&len) {
+            return None;
+        }
+        Bytes64::new(self.bytes(len)?)
     }
-}
 
-// The key or value that stands at `at`, of `least` to `most` bytes, and the place behind it.
-pub(crate) fn read_sized(
-    bytes: &[u8],
-    at: usize,
-    least: usize,
-    most: usize,
-) -> Option<(Bytes64, usize)>
-    requires { most ≤ 64 }
-    ensures { SizedRead bytes.now at least most result }
-{
-    if at >= bytes.len() {
-        return None;
+    // The number of attributes that comes first, one byte of at most 8.
+    pub(crate) fn count(&mut self) -> Option<usize>
+        ensures { MatchOption result (NoCount self.old.left.now) (λ n. CountFirst self.old.left.now n self.new.left.now) }
+    {
+        let count = self.byte()? as usize;
+        if count > 8 {
+            return None;
+        }
+        Some(count)
     }
-    let len = bytes[at] as usize;
-    let begin = at + 1;
-    if len < least || len > most || len > bytes.len() - begin {
-        return None;
-    }
-    let end = begin + len;
-    let Some(held) = Bytes64::new(&bytes[begin..end]) else {
-        return None;
-    };
-    Some((held, end))
-}
 
-// The number of attributes that stands at `at`, one byte of at most 8.
-pub(crate) fn read_count(bytes: &[u8], at: usize) -> Option<usize>
-    ensures { CountRead bytes.now at result }
-{
-    if at >= bytes.len() {
-        return None;
+    // The e_tag or version that comes first.
+    pub(crate) fn label(&mut self) -> Option<Label>
+        ensures { MatchOption result (NoLabel self.old.left.now) (λ l. LabelFirst self.old.left.now (label_of l) self.new.left.now) }
+    {
+        let mark = self.byte()?;
+        if mark == 0 {
+            return Some(Label::absent());
+        }
+        Label::present(self.bytes(mark as usize - 1)?)
     }
-    let count = bytes[at] as usize;
-    if count > 8 {
-        return None;
-    }
-    Some(count)
-}
-
-// The e_tag or version that stands at `at`, and the place behind it.
-pub(crate) fn read_label(bytes: &[u8], at: usize) -> Option<(Label, usize)>
-    ensures { LabelRead bytes.now at result }
-{
-    if at >= bytes.len() {
-        return None;
-    }
-    let mark = bytes[at] as usize;
-    let begin = at + 1;
-    if mark == 0 {
-        return Some((Label::absent(), begin));
-    }
-    let len = mark - 1;
-    if len > 64 || len > bytes.len() - begin {
-        return None;
-    }
-    let end = begin + len;
-    let Some(label) = Label::present(&bytes[begin..end]) else {
-        return None;
-    };
-    Some((label, end))
 }

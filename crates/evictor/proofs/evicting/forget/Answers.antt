@@ -1,9 +1,8 @@
-use Rattle.std.proofs.Common.{◌≡◌, ◌<◌, length, take, subst}
-use Rattle.std.proofs.lemmas.List.{take_all, length-map}
-use Rattle.index.specs.Indexes.{tracked_in}
+use Rattle.std.proofs.Common.{◌<◌, length}
+use Rattle.std.proofs.lemmas.List.{length-map}
 use Rattle.index.specs.Table.{entry_of, entries_of}
 use Rattle.index.proofs.Places.{entry_read}
-use Rattle.evictor.specs.Evicts.{Forgets, forgets_none}
+use Rattle.evictor.specs.Evicts.{forgets_none}
 use Rattle.evictor.proofs.Forgetting.{forgets_one_more}
 use Rattle.evictor.proofs.evicting.forget.Goals as goal
 
@@ -17,13 +16,5 @@ loop-record-preserved g c =
     let r = c.record-item.result in
     let in' : i < length (entries_of rs) = rw length-map c.loop-record-test.true in
     forgets_one_more g.C.LocalCacheStorage.sense g.C.ForgetfulCache.drops i (entry_of r) _ c.remove_entry.result
-    c.requires in' (entry_read rs i r c.loop-record-test.true c.record-item.is) c.loop-record.index.distinct
-    c.loop-record.invariant c.drop_entry.ensures.state c.drop_entry.ensures.held c.remove_entry.ensures
-
-pub returns : goal.returns
-returns g c =
-    let rs = c.args.picked.now in
-    let all : take c.loop-record.record-index (entries_of rs) ≡ entries_of rs =
-    take_all c.loop-record.record-index (entries_of rs) (rw length-map c.loop-record-test.false) in
-    subst (λ l. Forgets g.C.LocalCacheStorage.sense g.C.ForgetfulCache.drops c.args.inner.now (tracked_in c.args.index.now) l c.loop-record.inner (tracked_in c.loop-record.index))
-    all c.loop-record.invariant
+    c.requires in' (entry_read rs i r c.loop-record-test.true c.record-item.is) c.remove_entry.ensures.table.distinct
+    c.loop-record.invariant c.drop_entry.ensures.state c.drop_entry.ensures.held c.remove_entry.ensures.answer

@@ -1,10 +1,9 @@
 use Rattle.std.proofs.Common.{take}
-use Rattle.index.specs.Indexes.{tracked_in}
 use Rattle.index.specs.Table.{entries_of}
 use Rattle.evictor.specs.Evicts.{Forgets}
 use Rattle.evictor.proofs.evicting.forget.Given as goal
 
 abbrev pub invariant-loop-record : goal.invariant-loop-record
 invariant-loop-record g l =
-    Forgets g.C.LocalCacheStorage.sense g.C.ForgetfulCache.drops l.initial.inner (tracked_in l.initial.index)
-    (take l.record-index (entries_of l.picked)) l.inner (tracked_in l.index)
+    Forgets g.C.LocalCacheStorage.sense g.C.ForgetfulCache.drops l.initial.inner l.initial.index
+    (take l.record-index (entries_of l.picked)) l.inner l.index

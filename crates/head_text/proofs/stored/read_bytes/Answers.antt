@@ -11,7 +11,7 @@ returns-in_default c =
 
 pub loop-i-preserved : goal.loop-i-preserved
 loop-i-preserved c =
-    lists_more c.args.words.now c.loop-i.i (vec_items c.loop-i.bytes) (vec_items c.push.new.self) _ c.in-Some.b c.loop-i-test.true c.loop-i.invariant c.in-Some.ensures c.in-Ok.ensures.items
+    lists_more c.args.words.now c.loop-i.i (vec_items c.loop-i.bytes) (vec_items c.push.new.self) _ c.in-Some.b c.loop-i-test.true c.loop-i.invariant c.in-Some.ensures c.in_ok-push.ensures.items
 
 pub returns : goal.returns
 returns c = lists_all c.args.words.now c.loop-i.i (vec_items c.loop-i.bytes) c.loop-i-test.false c.loop-i.invariant

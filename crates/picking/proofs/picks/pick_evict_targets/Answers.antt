@@ -1,56 +1,58 @@
-use Rattle.std.proofs.Common.{◌≡◌, length, get_or, vec_items, sym, ap, ◌∙◌, subst, arith}
+use Rattle.std.proofs.Common.{◌≡◌, List, length, get_or, sym, ap, ◌∙◌, subst, arith}
 use Rattle.std.proofs.lemmas.List.{length-map, map_push}
+use Rattle.cache.specs.Tracking.{Entry}
 use Rattle.index.specs.Table.{entry_of, entries_of}
-use Rattle.picking.specs.Picks.{unpicked, Picks}
+use Rattle.picking.specs.Left.{table_of}
+use Rattle.picking.specs.Picks.{unpicked, Pick}
 use Rattle.picking.proofs.Picked.{picked_length}
 use Rattle.picking.proofs.Read.{read_entry}
-use Rattle.picking.proofs.Run.{two_left, run_begins, run_grows, run_ends}
+use Rattle.picking.proofs.Run.{more_to_pick, two_left, run_begins, run_grows}
 use Rattle.picking.proofs.Unpicked.{length_marked}
 use Rattle.picking.proofs.picks.pick_evict_targets.Goals as goal
 
-pub loop-keys-init : goal.loop-keys-init
-loop-keys-init g c = run_begins g.H.Host.draws c.none-marks.ensures (ap entries_of c.clear.ensures.items)
-
-pub pick_one-place-requires : goal.pick_one-place-requires
-pick_one-place-requires g c =
-    (c.records-keys.ensures.few, two_left (entries_of c.records-keys.result.now) c.loop-keys.marks.picked c.args.target (sym c.loop-keys-test.ensures))
+pub loop-candidates-init : goal.loop-candidates-init
+loop-candidates-init g c =
+    record { keys = c.of-candidates.ensures.keys; run = run_begins g.H.Host.draws c.of-candidates.ensures.picked (ap entries_of c.clear.ensures) }
 
 pub push-requires : goal.push-requires
 push-requires g c =
-    let es = entries_of c.records-keys.result.now in
-    let few = c.records-keys.ensures.few in
-    let table = length-map c.records-keys.result.now entry_of in
-    let two = two_left es c.loop-keys.marks.picked c.args.target (sym c.loop-keys-test.ensures) in
-    let parts = picked_length g.H.Host.draws {es = es} (omega arith) c.loop-keys.invariant in
-    let taken = length-map (vec_items c.loop-keys.targets.records) entry_of in
-    let len = c.loop-keys.targets.records.ok.0 in
+    let candidates = c.loop-candidates.candidates in
+    let few = candidates.few in
+    let same = ap (λ (es : List Entry). length (unpicked candidates.picked es)) c.loop-candidates.invariant.keys in
+    let keys = ap (λ (es : List Entry). length es) c.loop-candidates.invariant.keys in
+    let table = length-map candidates.keys.now entry_of in
+    let two = two_left (table_of candidates) candidates.picked c.args.target (sym c.loop-candidates-test.ensures) in
+    let parts = picked_length g.H.Host.draws {es = c.args.index.now} (omega arith) c.loop-candidates.invariant.run in
+    let taken = length-map c.loop-candidates.targets entry_of in
     omega arith
 
-pub loop-keys-smaller : goal.loop-keys-smaller
-loop-keys-smaller g c =
-    let keys = c.records-keys.result.now in
-    let marks = c.loop-keys.marks.picked in
-    let few = c.records-keys.ensures.few in
-    let table = length-map keys entry_of in
-    let long = c.loop-keys.marks.whole in
-    let within = c.pick_one-place.ensures.within in
-    let marked = ap (λ ms. length (unpicked ms (entries_of keys))) c.pick.ensures in
-    let falls = length_marked marks (entries_of keys) c.pick_one-place.result (omega arith) (omega arith) c.pick_one-place.ensures.fresh in
+pub loop-candidates-smaller : goal.loop-candidates-smaller
+loop-candidates-smaller g c =
+    let candidates = c.loop-candidates.candidates in
+    let few = candidates.few in
+    let long = candidates.whole in
+    let table = length-map candidates.keys.now entry_of in
+    let place = c.pick_one-place in
+    let within = place.ensures.within in
+    let same = ap (λ ks. length (unpicked c.pick.new.self.picked (entries_of ks))) c.pick.ensures.keys in
+    let marked = ap (λ ms. length (unpicked ms (table_of candidates))) c.pick.ensures.picked in
+    let falls = length_marked candidates.picked (table_of candidates) place.result (omega arith) (omega arith) place.ensures.fresh in
     omega arith
 
-pub loop-keys-preserved : goal.loop-keys-preserved
-loop-keys-preserved g c =
-    let keys = c.records-keys.result.now in
-    let key = c.index-keys-place.result in
-    let place = c.pick_one-place.result in
-    let entry = entry_of key in
-    let is : entry ≡ get_or (entries_of keys) place entry = ap entry_of c.index-keys-place.is ∙ sym (read_entry keys place key entry c.pick_one-place.ensures.within) in
-    run_grows g.H.Host.draws c.loop-keys.invariant (sym c.loop-keys-test.ensures) (c.pick_one-place.ensures.pick entry is)
-    c.pick.ensures (ap entries_of c.push.ensures.items ∙ map_push entry_of (vec_items c.loop-keys.targets.records) key)
-
-pub returns : goal.returns
-returns g c =
-    subst
-    (λ ks. Picks g.H.Host.draws (entries_of ks) c.args.target c.args.host.now (entries_of (vec_items c.loop-keys.targets.records)) c.loop-keys.host)
-    c.records-keys.ensures.value
-    (run_ends g.H.Host.draws c.loop-keys.invariant (sym c.loop-keys-test.ensures))
+pub loop-candidates-preserved : goal.loop-candidates-preserved
+loop-candidates-preserved g c =
+    let candidates = c.loop-candidates.candidates in
+    let same = c.loop-candidates.invariant.keys in
+    let place = c.pick_one-place in
+    let entry = entry_of c.pick.result in
+    let is : entry ≡ get_or (table_of candidates) place.result entry
+    = ap entry_of c.pick.ensures.key ∙ sym (read_entry candidates.keys.now place.result c.pick.result entry place.ensures.within) in
+    record {
+      keys = ap entries_of c.pick.ensures.keys ∙ same;
+      run =
+          run_grows g.H.Host.draws c.loop-candidates.invariant.run
+          (ap (λ es. more_to_pick es candidates.picked c.args.target) (sym same) ∙ sym c.loop-candidates-test.ensures)
+          (subst (λ es. Pick g.H.Host.draws es candidates.picked c.loop-candidates.host place.result entry place.new.host) same (place.ensures.pick entry is))
+          c.pick.ensures.picked
+          (ap entries_of c.push.ensures ∙ map_push entry_of c.loop-candidates.targets c.pick.result);
+    }

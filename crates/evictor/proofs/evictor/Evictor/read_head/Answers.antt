@@ -1,25 +1,13 @@
-use Rattle.std.proofs.Common.{Some, None, sym, refl}
-use Rattle.cache.specs.Caches.{HeadRead}
+use Rattle.std.proofs.Common.{sym, refl}
 use Rattle.evictor.specs.Evicts.{not_tracked, not_answered, answered}
-use Rattle.evictor.proofs.Through.{through, without}
 use Rattle.evictor.proofs.evictor.Evictor.read_head.Goals as goal
 
-pub returns-then-not-is_tracked : goal.returns-then-not-is_tracked
-returns-then-not-is_tracked g c =
-    let untracked = sym c.if-not-is_tracked.ensures in
-    record { answer = without (λ o. HeadRead o None) _ _ untracked refl; state = not_tracked untracked refl }
+pub returns-then-not-is_tracked-clause-state : goal.returns-then-not-is_tracked-clause-state
+returns-then-not-is_tracked-clause-state g c = not_tracked (sym c.if-not-is_tracked.ensures) refl
 
-pub returns-in_default : goal.returns-in_default
-returns-in_default g c =
-    let tracked = sym c.if-not-is_tracked.ensures in
-    let e = c.in_default.ensures in
-    record { answer = through (λ o. HeadRead o None) _ _ tracked e.answer; state = not_answered tracked e.state refl }
+pub returns-in_err-head-clause-state : goal.returns-in_err-head-clause-state
+returns-in_err-head-clause-state g c =
+    rw c.from_residual.ensures (not_answered (sym c.if-not-is_tracked.ensures) c.in_err-head.ensures.state refl)
 
-pub returns : goal.returns
-returns g c =
-    let tracked = sym c.if-not-is_tracked.ensures in
-    let e = c.in-Some.ensures in
-    record {
-      answer = through (λ o. HeadRead o (Some c.in-Some.head)) _ _ tracked e.answer;
-      state = answered tracked e.state c.note_read.ensures;
-    }
+pub returns-clause-state : goal.returns-clause-state
+returns-clause-state g c = answered (sym c.if-not-is_tracked.ensures) c.in_ok-head.ensures.state c.note_read.ensures

@@ -1,35 +1,20 @@
-use Rattle.std.proofs.Common.{Some, None, sym, refl}
+use Rattle.std.proofs.Common.{Some, sym, refl}
 use Rattle.cache.specs.Caches.{PartRead}
 use Rattle.evictor.specs.Evicts.{not_tracked, not_answered, answered}
-use Rattle.evictor.proofs.Through.{through, without, not_given}
+use Rattle.evictor.proofs.Through.{through}
 use Rattle.evictor.proofs.evictor.Evictor.read_part.Goals as goal
 
-pub returns-then-not-is_tracked : goal.returns-then-not-is_tracked
-returns-then-not-is_tracked g c =
-    let untracked = sym c.if-not-is_tracked.ensures in
-    let piece = c.args.piece in
-    let out = c.args.out.now in
-    record {
-      answer = without (λ o. PartRead o piece.start piece.end out out None) _ _ untracked (not_given, refl);
-      state = not_tracked untracked refl;
-    }
+pub returns-then-not-is_tracked-clause-state : goal.returns-then-not-is_tracked-clause-state
+returns-then-not-is_tracked-clause-state g c = not_tracked (sym c.if-not-is_tracked.ensures) refl
 
-pub returns-in_default : goal.returns-in_default
-returns-in_default g c =
-    let tracked = sym c.if-not-is_tracked.ensures in
-    let piece = c.args.piece in
-    let e = c.in_default.ensures in
-    record {
-      answer = through (λ o. PartRead o piece.start piece.end c.args.out.now c.read_part.new.out None) _ _ tracked e.answer;
-      state = not_answered tracked e.state refl;
-    }
+pub returns-in_err-count-clause-state : goal.returns-in_err-count-clause-state
+returns-in_err-count-clause-state g c =
+    rw c.from_residual.ensures (not_answered (sym c.if-not-is_tracked.ensures) c.in_err-count.ensures.state refl)
 
-pub returns : goal.returns
-returns g c =
-    let tracked = sym c.if-not-is_tracked.ensures in
-    let piece = c.args.piece in
-    let e = c.in-Some.ensures in
-    record {
-      answer = through (λ o. PartRead o piece.start piece.end c.args.out.now c.read_part.new.out (Some c.in-Some.count)) _ _ tracked e.answer;
-      state = answered tracked e.state c.note_read.ensures;
-    }
+pub returns-clause-state : goal.returns-clause-state
+returns-clause-state g c = answered (sym c.if-not-is_tracked.ensures) c.in_ok-count.ensures.state c.note_read.ensures
+
+pub returns-clause-answer : goal.returns-clause-answer
+returns-clause-answer g c =
+    through (λ o. PartRead o c.args.piece.start c.args.piece.end c.args.out.now c.read_part.new.out (Some c.in_ok-count.count)) _ _
+    (sym c.if-not-is_tracked.ensures) c.in_ok-count.ensures.answer

@@ -1,7 +1,6 @@
 use Rattle.std.proofs.Common.{◌≡◌, ℕ, false, List, is_some, Some, None, Option, sym, ◌∙◌, MatchOption}
 use Rattle.cache.specs.Keys.{Key, key_of}
 use Rattle.cache.specs.Tracking.{Entry}
-use Rattle.index.specs.Indexes.{tracked_in}
 use Rattle.index.specs.Table.{tracks, TrackedAt}
 use Rattle.index.proofs.Places.{tracks_at}
 use Rattle.index.proofs.index.Index.is_tracked.Goals as goal
@@ -12,4 +11,4 @@ found_is_tracked k es (Some i) p = sym (tracks_at p.1)
 
 pub returns : goal.returns
 returns c =
-    c.is_some.ensures ∙ found_is_tracked (key_of c.args.key.now) (tracked_in c.args.self.now) c.find.result c.find.ensures
+    c.is_some.ensures ∙ found_is_tracked (key_of c.args.key.now) c.args.self.now c.find.result c.find.ensures

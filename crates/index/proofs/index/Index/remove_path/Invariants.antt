@@ -1,11 +1,10 @@
-use Rattle.std.proofs.Common.{vec_len}
+use Rattle.std.proofs.Common.{length}
 use Rattle.cache.specs.Keys.{path_bytes}
-use Rattle.index.specs.Indexes.{tracked_in}
 use Rattle.index.proofs.PathRemoval.{PartsGone}
 use Rattle.index.proofs.index.Index.remove_path.Given as goal
 
 abbrev pub invariant-loop-part : goal.invariant-loop-part
-invariant-loop-part l = PartsGone (path_bytes l.path) (tracked_in l.initial.self) (tracked_in l.self)
+invariant-loop-part l = PartsGone (path_bytes l.path) l.initial.self l.self
 
 abbrev pub decreases-loop-part : goal.decreases-loop-part
-decreases-loop-part l = vec_len l.self.table.records
+decreases-loop-part l = length l.self

@@ -1,19 +1,13 @@
-use Rattle.std.proofs.Common.{arith}
-use Rattle.records.proofs.Fill.{fill_more, filled, filled_padded, filled_held}
+use Rattle.std.proofs.Common.{◌-◌, length, arith}
+use Rattle.records.proofs.Fill.{put_padded, put_held}
 use Rattle.records.proofs.bytes64.Bytes64.new.Goals as goal
 
-pub loop-i-preserved : goal.loop-i-preserved
-loop-i-preserved c = simp c.loop-i.invariant (fill_more 64 c.args.bytes.now c.loop-i.i (omega arith) (omega arith))
-
 pub invariant_of-result : goal.invariant_of-result
-invariant_of-result c = record {
-  padded = filled_padded 64 c.args.bytes.now c.loop-i.held (omega arith)
-      (filled 64 c.args.bytes.now c.loop-i.i c.loop-i.held (omega arith) (omega arith) c.loop-i.invariant);
-}
+invariant_of-result c =
+    simp c.copy_from_slice.ensures.after
+    (record { padded = put_padded c.args.bytes.now (length c.args.bytes.now - 0) (omega arith) (omega arith) })
 
 pub returns : goal.returns
-returns c = (
-  omega arith,
-  filled_held 64 c.args.bytes.now c.loop-i.held
-      (filled 64 c.args.bytes.now c.loop-i.i c.loop-i.held (omega arith) (omega arith) c.loop-i.invariant),
-)
+returns c =
+    simp c.copy_from_slice.ensures.after
+    (omega arith, put_held c.args.bytes.now (length c.args.bytes.now - 0) (omega arith) (omega arith))

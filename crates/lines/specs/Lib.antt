@@ -1,0 +1,3 @@
+pub mod Counts
+pub mod Words
+pub mod Visits
