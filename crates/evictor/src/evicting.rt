@@ -1,7 +1,7 @@
 // Giving up keys.
 ghost use Rattle.std.specs.Prelude.{◌≡◌, ℕ};
 ghost use Rattle.cache.specs.Keys.{key_of};
-ghost use Rattle.index.specs.Table.{entries_of};
+ghost use Rattle.index.specs.Table.{entries_of, IsTable};
 ghost use Rattle.evictor.specs.Evicts.{Forgets, Forgettable, Evicts, Follows, Room};
 ghost use Rattle.evictor.specs.States.{state_of};
 
@@ -14,7 +14,8 @@ use picking::{eviction_target, pick_evict_targets};
 // Drops the picked keys below and removes them, in their order.
 fn forget<C: ForgetfulCache>(inner: &mut C, index: &mut Index, picked: &[KeyRecord])
     requires { Forgettable index.old (entries_of picked.now) }
-    ensures { Forgets C.LocalCacheStorage.sense C.ForgetfulCache.drops inner.old index.old (entries_of picked.now) inner.new index.new }
+    ensures forgets { Forgets C.LocalCacheStorage.sense C.ForgetfulCache.drops inner.old index.old (entries_of picked.now) inner.new index.new }
+    ensures table { IsTable index.old → IsTable index.new }
 {
     for record in picked {
         inner.drop_entry(record.key);

@@ -1,4 +1,7 @@
 // The parts of an evicting cache.
+ghost use Rattle.index.specs.Table.{IsTable};
+ghost use Rattle.std.proofs.Props.{props};
+
 use index::Index;
 use picking::Targets;
 
@@ -12,4 +15,6 @@ pub struct Evictor<C, H> {
     // room for the keys that are picked
     pub(crate) targets: Targets,
     pub(crate) maximum: u32,
+    // every index is one, but that is seen only where the index is called
+    ghost table: { IsTable index } by { Prim.hlevel props },
 }

@@ -1,6 +1,6 @@
 // Making an evicting cache, and looking at what it tracks.
 ghost use Rattle.std.specs.Prelude.{◌≡◌, [], IfOk};
-ghost use Rattle.index.specs.Table.{entries_of};
+ghost use Rattle.index.specs.Table.{entries_of, IsTable};
 ghost use Rattle.evictor.specs.Evicts.{State};
 ghost use Rattle.evictor.specs.States.{state_of};
 
@@ -37,7 +37,8 @@ impl<C: Drop, H: Drop> EvictingCache<C, H> {
 impl<C, H> EvictingCache<C, H> {
     // The tracked keys in their order.
     pub fn tracked(&self) -> &[KeyRecord]
-        ensures { entries_of result.now ≡ (state_of self.now.evictor).entries }
+        ensures entries { entries_of result.now ≡ (state_of self.now.evictor).entries }
+        ensures table { IsTable (state_of self.now.evictor).entries }
     {
         self.evictor.index.records()
     }

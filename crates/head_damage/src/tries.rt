@@ -1,4 +1,5 @@
 // What a damaged form comes to.
+use records::Head;
 use stored_head::{load, save};
 
 #[derive(Clone, Copy, Debug, PartialEq, Eq)]
@@ -12,26 +13,35 @@ pub enum Came {
     Astray,
 }
 
-// The bytes that the head of a form is saved as. There is room for every head, so that one that is not saved
-// has gone astray.
-fn saved_again<'a>(form: &[u8], room: &'a mut [u8; 927]) -> Result<&'a [u8], Came> {
-    let head = load(form).ok_or(Came::NoHead)?;
-    let len = save(&head, room).map_err(|_| Came::Astray)?;
+// The bytes that a head is saved as. There is room for every head, so that one that is not saved has gone astray.
+fn saved_in<'a>(room: &'a mut [u8; 927], head: &Head) -> Result<&'a [u8], Came> {
+    let len = save(head, room).map_err(|_| Came::Astray)?;
     Ok(&room[..len])
 }
 
-pub fn try_form(form: &[u8]) -> Came {
+// What a form with this head comes to. Apart from `try_form`, so that no room is made for a form with no head.
+fn try_head(head: &Head, form: &[u8]) -> Came {
     let mut room = [0; 927];
-    let saved = match saved_again(form, &mut room) {
+    let saved = match saved_in(&mut room, head) {
         Ok(saved) => saved,
         Err(came) => return came,
     };
+    let Some(other) = load(saved) else {
+        return Came::Astray;
+    };
     let mut again = [0; 927];
-    if saved_again(saved, &mut again) != Ok(saved) {
+    if saved_in(&mut again, &other) != Ok(saved) {
         Came::Astray
     } else if saved == form {
         Came::Same
     } else {
         Came::Other
+    }
+}
+
+pub fn try_form(form: &[u8]) -> Came {
+    match load(form) {
+        Some(head) => try_head(&head, form),
+        None => Came::NoHead,
     }
 }

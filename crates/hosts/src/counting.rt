@@ -12,7 +12,8 @@ pub struct CountingHost {
     next: u64,
 }
 
-// In a contract it is the number that it gives next.
+// In a contract it is the number that it gives next. That this is below 2^63 each request says again, since callers do
+// not see the invariant.
 impl Model for CountingHost {
     ghost use Rattle.std.specs.Prelude.{ℕ, ◌^◌, ◌<◌};
 
@@ -33,7 +34,7 @@ impl CountingHost {
     }
 
     fn take(&mut self) -> i64
-        ensures { (result ≡ pos self.old) × (self.new ≡ counted_on self.old) }
+        ensures { (result ≡ pos self.old) × (self.new ≡ counted_on self.old) × (self.old < 2 ^ 63) }
     {
         let number = self.next;
         self.next = (number + 1) % (1 << 63);
@@ -42,9 +43,9 @@ impl CountingHost {
 }
 
 impl Host for CountingHost {
-    ghost times = { λ s r t. (r ≡ pos s) × (t ≡ counted_on s) };
+    ghost times = { λ s r t. (r ≡ pos s) × (t ≡ counted_on s) × (s < 2 ^ 63) };
 
-    ghost draws = { λ s n r t. LeftOver (pos s) n r × (t ≡ counted_on s) };
+    ghost draws = { λ s n r t. LeftOver (pos s) n r × (t ≡ counted_on s) × (s < 2 ^ 63) };
 
     fn time(&mut self) -> i64 {
         self.take()

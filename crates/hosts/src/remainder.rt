@@ -8,6 +8,7 @@ pub(crate) fn left_over(x: i64, n: usize) -> usize
     if n == 0 {
         return 0;
     }
-    // in 128 bits, which hold every usize and every i64
-    (x as i128).rem_euclid(n as i128) as usize
+    // of the size first, in one division of 64 bits: n may be larger than every i64
+    let rest = (x.unsigned_abs() % n as u64) as usize;
+    if x < 0 && rest > 0 { n - rest } else { rest }
 }

@@ -1,8 +1,8 @@
 -- What a use of a key leaves.
-use Rattle.std.proofs.Common.{◌≡◌, ℕ, ◌+◌, ◌*◌, ◌^◌, ◌<◌, ◌≤◌, true, false, ◌||◌, List, [], ◌∷◌, ◌++◌, length, get_or, set, ℤ, sum_by, sym, refl, ap, ◌∙◌, subst, ⊎_elim, arith}
+use Rattle.std.proofs.Common.{◌≡◌, ℕ, ◌+◌, ◌*◌, ◌^◌, ◌<◌, ◌≤◌, true, false, ◌||◌, List, [], ◌∷◌, ◌++◌, length, get_or, set, ℤ, sum_by, sym, refl, ap, ◌∙◌, subst, ⊎_elim, arith, ◌≢◌}
 use Rattle.std.specs.List.{AllByRecursion as All}
-use Rattle.std.proofs.ByRecursion.{All-map, sum_by_le}
-use Rattle.std.proofs.lemmas.List.{map-set, map_push, length-set, length_push}
+use Rattle.std.proofs.ByRecursion.{All-map, All-push, All-set, sum_by_le}
+use Rattle.std.proofs.lemmas.List.{map-set, map_push, length-set, length_push, get_or-set_same, get_or-set_other, get_or_append_left, get_or_push}
 use Rattle.std.proofs.lemmas.List.Sums.{sum_by-set, sum_by_push}
 use Rattle.std.proofs.lemmas.Bool.{cases_Bool, or_right}
 use Rattle.cache.specs.Keys.{Key, same_key}
@@ -11,11 +11,15 @@ use Rattle.cache.specs.SameKey.{same_key_decides}
 use Rattle.index.specs.declared.record.KeyRecord.{KeyRecord}
 use Rattle.index.specs.Table.{entry_of, entries_of, tracks, once, IsTable, TrackedAt, Touched, Used}
 use Rattle.index.proofs.Counts.{one_if, one_if_same, times_of_untracked, times_of_once, once_by_times, tracks_by_times}
-use Rattle.index.proofs.Places.{tracks_at, tracked_record}
+use Rattle.index.proofs.Places.{all_at, tracks_at, tracked_record, one_key}
 
 -- an entry with another time
 abbrev pub at_time : Entry → ℤ → Entry
 at_time e time = record { key = e.key; size = e.size; time = time }
+
+-- a size of the code
+abbrev Sized : Entry → Type 0
+Sized e = e.size < 2 ^ 64
 
 -- the time of one key is set
 
@@ -41,7 +45,34 @@ touched_once {es} {after} t o =
     once_by_times after (λ j. let same = touched_sums (one_if j) t refl in let h = times_of_once es o j in omega arith)
 
 pub touched_table : {k : Key} {time : ℤ} {es after : List Entry} → Touched k time es after → IsTable es → IsTable after
-touched_table t is = record { few = (let f = is.few in let l = touched_length t in omega arith); distinct = touched_once t is.distinct }
+touched_table {es} t is = record {
+  few = (let f = is.few in let l = touched_length t in omega arith);
+  distinct = touched_once t is.distinct;
+  sized = subst (All Sized) (sym t.is) (All-set Sized es t.place _ (all_at Sized is.sized t.tracked) is.sized);
+}
+
+pub touched_here : {k : Key} {time : ℤ} {es after : List Entry} (t : Touched k time es after) → TrackedAt k after t.place (at_time t.entry time)
+touched_here {k} {time} {es} {after} t =
+    let e = at_time t.entry time in
+    let P : List Entry → Type 0 = λ xs. TrackedAt k xs t.place e in
+    subst P (sym t.is)
+    (record {
+      within = let l = t.tracked.within in simp length-set (omega arith);
+      is = sym (get_or-set_same es t.place e e t.tracked.within);
+      key = t.tracked.key;
+    })
+
+pub touched_other : {k : Key} {time : ℤ} {es after : List Entry} {j : Key} {i : ℕ} {e : Entry} → Touched k time es after → (j ≡ k → ⊥) → TrackedAt j es i e → TrackedAt j after i e
+touched_other {k} {time} {es} {after} {j} {i} {e} t ne a =
+    let new = at_time t.entry time in
+    let away : i ≢ t.place = λ same. let Q : ℕ → Type 0 = λ n. TrackedAt j es n e in ne (one_key (subst Q same a) t.tracked) in
+    let P : List Entry → Type 0 = λ xs. TrackedAt j xs i e in
+    subst P (sym t.is)
+    (record {
+      within = let l = a.within in simp length-set (omega arith);
+      is = a.is ∙ sym (get_or-set_other es t.place i new e away);
+      key = a.key;
+    })
 
 -- a key is appended
 
@@ -74,8 +105,24 @@ appended_once es e new o =
     (λ other. let none : one_if j e ≡ 0 = rw other in omega arith)
     (cases_Bool (same_key e.key j)))
 
-pub appended_table : (es : List Entry) (e : Entry) → tracks e.key es ≡ false → length es < 256 → IsTable es → IsTable (es ++ e ∷ [])
-appended_table es e new room is = record { few = (let l = appended_length es e in omega arith); distinct = appended_once es e new is.distinct }
+pub appended_table : (es : List Entry) (e : Entry) → tracks e.key es ≡ false → length es < 256 → e.size < 2 ^ 64 → IsTable es → IsTable (es ++ e ∷ [])
+appended_table es e new room fits is = record {
+  few = (let l = appended_length es e in omega arith);
+  distinct = appended_once es e new is.distinct;
+  sized = All-push Sized es e is.sized fits;
+}
+
+pub appended_other : {es : List Entry} (x : Entry) {j : Key} {i : ℕ} {e : Entry} → TrackedAt j es i e → TrackedAt j (es ++ x ∷ []) i e
+appended_other {es} x {j} {i} {e} a =
+    record {
+      within = let l = a.within in let n = length_push es x in omega arith;
+      is = a.is ∙ sym (get_or_append_left es (x ∷ []) e i a.within);
+      key = a.key;
+    }
+
+pub appended_here : (es : List Entry) (e : Entry) → TrackedAt e.key (es ++ e ∷ []) (length es) e
+appended_here es e =
+    record { within = let n = length_push es e in omega arith; is = sym (get_or_push es e e (length es) refl); key = refl }
 
 -- a key is used, known or new
 
@@ -91,6 +138,13 @@ used_tracks k size time es after u j =
     (λ other. touched_tracks t j ∙ rw other (elim (tracks j es) as (λ b. b ≡ (b || false)) [ true ↦ refl | false ↦ refl ]))
     (cases_Bool (same_key k j)))
     (λ n. ap (tracks j) n.1 ∙ appended_tracks es (record { key = k; size = size; time = time }) j)
+    u
+
+pub used_once : (k : Key) (size : ℕ) (time : ℤ) (es after : List Entry) → Used k size time es after → once es ≡ true → once after ≡ true
+used_once k size time es after u o =
+    ⊎_elim
+    (λ t. touched_once t o)
+    (λ n. ap once n.1 ∙ appended_once es (record { key = k; size = size; time = time }) n.0 o)
     u
 
 each_fits : (rs : List KeyRecord) → All (λ r. r.size ≤ 2 ^ 64) rs

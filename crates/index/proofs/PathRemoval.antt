@@ -7,10 +7,10 @@ use Rattle.std.proofs.lemmas.Bool.{or_parts, or_from, both_ways}
 use Rattle.cache.specs.Keys.{Key, head_key, part_key, key_path, same_key}
 use Rattle.cache.specs.Tracking.{Entry, sizes}
 use Rattle.index.specs.Parts.{part_number, smallest_part}
-use Rattle.index.specs.Table.{tracks, once, rank, Removed, Removes, removes_none, removes_next, Upward, PathRemoved}
-use Rattle.index.proofs.Counts.{one_if, one_if_other, times, same_key_true, same_key_false, tracks_by_times}
+use Rattle.index.specs.Table.{tracks, once, rank, Removed, Removes, removes_none, removes_next, Upward, PathRemoved, TrackedAt}
+use Rattle.index.proofs.Counts.{one_if, one_if_other, times, same_key_true, same_key_false, tracks_by_times, times_of_once, once_by_times}
 use Rattle.index.proofs.Places.{all_at}
-use Rattle.index.proofs.Removal.{removed_sums, removed_length, removed_gone, removed_tracks, removed_all}
+use Rattle.index.proofs.Removal.{removed_sums, removed_length, removed_gone, removed_tracks, removed_all, removed_other, removed_from}
 use Rattle.index.proofs.SmallestPart.{AtLeast, none_smallest, some_smallest, number_of_part, head_or_part}
 
 -- keys are removed one after the other
@@ -30,6 +30,10 @@ removes_length (removes_next r rs) = let h = removed_length r in let k = removes
 pub removes_sizes : {gone es after : List Entry} → Removes gone es after → sizes after + sizes gone ≡ sizes es
 removes_sizes rs = removes_sums (λ e. e.size) rs
 
+pub removes_once : {gone es after : List Entry} → Removes gone es after → once es ≡ true → once after ≡ true
+removes_once {gone} {es} {after} rs o =
+    once_by_times after (λ j. let h = removes_sums (one_if j) rs in let top = times_of_once es o j in omega arith)
+
 never_among : (j : Key) (gone : List Entry) → All (λ e. e.key ≡ j → ⊥) gone → times j gone ≡ 0
 never_among j [] h = refl
 never_among j (e ∷ gone) h =
@@ -44,6 +48,17 @@ removes_tracks {gone} {es} {after} j rs h =
     let s = removes_sums (one_if j) rs in
     let z = never_among j gone h in
     tracks_by_times j after es (omega arith)
+
+-- and keeps its entry
+pub removes_other : {gone es after : List Entry} {j : Key} {i : ℕ} {f : Entry} → Removes gone es after → All (λ e. e.key ≡ j → ⊥) gone → TrackedAt j es i f → (p : ℕ) × TrackedAt j after p f
+removes_other {i} removes_none h a = (i, a)
+removes_other (removes_next r rs) h a =
+    let one = removed_other r (λ same. h.0 (sym same)) a in removes_other rs h.1 one.1
+
+-- and nothing is new
+pub removes_from : {gone es after : List Entry} {j : Key} {i : ℕ} {f : Entry} → Removes gone es after → TrackedAt j after i f → (p : ℕ) × TrackedAt j es p f
+removes_from {i} removes_none a = (i, a)
+removes_from (removes_next r rs) a = removed_from r (removes_from rs a).1
 
 removes_push : {e : Entry} {gone es between after : List Entry} → Removes gone es between → Removed e between after → Removes (gone ++ e ∷ []) es after
 removes_push removes_none r = removes_next r removes_none
@@ -73,11 +88,20 @@ path_gone {path} {es} {after} r j p =
 pub path_others : {path : List ℕ} {es after : List Entry} → PathRemoved path es after → (j : Key) → (key_path j ≡ path → ⊥) → tracks j after ≡ tracks j es
 path_others {path} r j ne = removes_tracks j r.runs (away path j r.removed ne r.of_path)
 
+pub path_other_place : {path : List ℕ} {es after : List Entry} {j : Key} {i : ℕ} {f : Entry} → PathRemoved path es after → (key_path j ≡ path → ⊥) → TrackedAt j es i f → (p : ℕ) × TrackedAt j after p f
+path_other_place {path} {j} r ne a = removes_other r.runs (away path j r.removed ne r.of_path) a
+
+pub path_from : {path : List ℕ} {es after : List Entry} {j : Key} {i : ℕ} {f : Entry} → PathRemoved path es after → TrackedAt j after i f → (p : ℕ) × TrackedAt j es p f
+path_from r a = removes_from r.runs a
+
 pub path_sizes : {path : List ℕ} {es after : List Entry} → PathRemoved path es after → sizes after ≤ sizes es
 path_sizes r = let h = removes_sizes r.runs in omega arith
 
 pub path_length : {path : List ℕ} {es after : List Entry} → PathRemoved path es after → length after ≤ length es
 path_length r = let h = removes_length r.runs in omega arith
+
+pub path_once : {path : List ℕ} {es after : List Entry} → PathRemoved path es after → once es ≡ true → once after ≡ true
+path_once r o = removes_once r.runs o
 
 -- the parts that are gone so far: each is below those that are left
 

@@ -5,18 +5,34 @@ use Rattle.std.proofs.ByRecursion.{All-get_or, All-weaker, all_has_itself}
 use Rattle.std.proofs.lemmas.List.{length-map, get_or_read, get_or-map}
 use Rattle.std.proofs.lemmas.List.Sums.{get_or-le-sum_by}
 use Rattle.std.proofs.lemmas.Option.{slice_get_cases}
-use Rattle.std.proofs.lemmas.Bool.{both_ways, and_parts, not-true}
+use Rattle.std.proofs.lemmas.Bool.{both_ways, and_parts, not-true, cases_Bool}
 use Rattle.cache.specs.Keys.{Key, same_key, key_of}
 use Rattle.cache.specs.Tracking.{Entry}
 use Rattle.index.specs.declared.record.KeyRecord.{KeyRecord}
 use Rattle.index.specs.Table.{entry_of, entries_of, tracks, once, TrackedAt}
 use Rattle.index.proofs.Counts.{one_if, one_if_same, tracked_by_times}
+use Rattle.cache.specs.SameKey.{same_key_decides}
 
 pub tracks_at : {k : Key} {es : List Entry} {i : ℕ} {e : Entry} → TrackedAt k es i e → tracks k es ≡ true
 tracks_at {k} {es} {i} {e} t =
     let here : one_if k (get_or es i e) ≡ 1 = ap (one_if k) (sym t.is) ∙ one_if_same k e t.key in
     let le = get_or-le-sum_by (one_if k) es i e t.within in
     tracked_by_times k es (omega arith)
+
+-- a key is tracked at some place
+abbrev pub Place : Key → List Entry → Type 0
+Place k es = (i : ℕ) × (e : Entry) × TrackedAt k es i e
+
+pub place_of : (k : Key) (es : List Entry) → tracks k es ≡ true → Place k es
+place_of k [] t = absurd (both_ways false refl t)
+place_of k (e ∷ es) t =
+    ⊎_elim
+    (λ here. (0, e, record { within = omega arith; is = refl; key = (same_key_decides e.key k).0 here }))
+    (λ other.
+    let later : tracks k es ≡ true = rw other at t in
+    let p = place_of k es later in
+    (suc p.0, p.1, record { within = let l = p.2.within in omega arith; is = p.2.is; key = p.2.key }))
+    (cases_Bool (same_key e.key k))
 
 -- no place has a key that is not tracked
 pub no_place : {k : Key} {es : List Entry} {i : ℕ} {e : Entry} → tracks k es ≡ false → TrackedAt k es i e → ⊥

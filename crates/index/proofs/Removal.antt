@@ -1,5 +1,5 @@
 -- What removing a key leaves.
-use Rattle.std.proofs.Common.{◌≡◌, ℕ, ◌+◌, ◌-◌, ◌<◌, true, false, ◌≢◌, List, length, get_or, take, set, sum_by, sym, refl, ap, ◌∙◌, subst, ⊎_elim, arith}
+use Rattle.std.proofs.Common.{◌≡◌, ℕ, ◌+◌, ◌-◌, ◌^◌, ◌<◌, true, false, ◌≢◌, List, length, get_or, take, set, sum_by, sym, refl, ap, ◌∙◌, subst, ⊎_elim, arith}
 use Rattle.std.specs.List.{AllByRecursion as All}
 use Rattle.std.proofs.ByRecursion.{All-get_or, All-set, All-take}
 use Rattle.std.proofs.lemmas.List.{length-map, get_or-map, take-map, map-set, length-set, length-take-le, take_all, get_or-take, get_or-set_same, get_or-set_other, get_or_default}
@@ -10,7 +10,7 @@ use Rattle.cache.specs.Tracking.{Entry, sizes}
 use Rattle.index.specs.declared.record.KeyRecord.{KeyRecord}
 use Rattle.index.specs.Table.{entry_of, entries_of, tracks, once, IsTable, TrackedAt, Removed}
 use Rattle.index.proofs.Counts.{one_if, one_if_same, one_if_other, times_of_once, once_by_times, untracked_by_times, tracks_by_times}
-use Rattle.index.proofs.Places.{one_key, tracked_record}
+use Rattle.index.proofs.Places.{one_key, tracked_record, all_at, all_placed}
 
 -- the last entry, and the table once it stands in the gap too
 abbrev last_of : Entry → List Entry → Entry
@@ -72,9 +72,6 @@ pub removed_once : {e : Entry} {es after : List Entry} → Removed e es after �
 removed_once {e} {es} {after} r o =
     once_by_times after (λ j. let h = removed_sums (one_if j) r in let top = times_of_once es o j in omega arith)
 
-pub removed_table : {e : Entry} {es after : List Entry} → Removed e es after → IsTable es → IsTable after
-removed_table r is = record { few = (let f = is.few in let l = removed_length r in omega arith); distinct = removed_once r is.distinct }
-
 -- what holds of every entry still does
 pub removed_all : (P : Entry → Type 0) {e : Entry} {es after : List Entry} → Removed e es after → All P es → All P after
 removed_all P {e} {es} {after} r h =
@@ -82,6 +79,13 @@ removed_all P {e} {es} {after} r h =
     let Q : List Entry → Type 0 = λ xs. All P xs in
     subst Q (sym r.is)
     (All-take P (length es - 1) (filled r) (All-set P es r.place (last_of e es) (All-get_or P es (length es - 1) e (omega arith) h) h))
+
+pub removed_table : {e : Entry} {es after : List Entry} → Removed e es after → IsTable es → IsTable after
+removed_table r is = record {
+  few = (let f = is.few in let l = removed_length r in omega arith);
+  distinct = removed_once r is.distinct;
+  sized = removed_all (λ e. e.size < 2 ^ 64) r is.sized;
+}
 
 -- every other key keeps its entry, at its place or in the gap
 pub removed_other : {e : Entry} {es after : List Entry} {j : Key} {i : ℕ} {f : Entry} → Removed e es after → (j ≡ e.key → ⊥) → TrackedAt j es i f → (p : ℕ) × TrackedAt j after p f
@@ -105,6 +109,14 @@ removed_other {e} {es} {after} {j} {i} {f} r ne a =
     (λ same. (r.place, record { within = omega (arith, away); is = reads.0 same; key = a.key }))
     (λ other. (i, record { within = omega (arith, other); is = reads.1 other; key = a.key }))
     (cases_eq i (length es - 1))
+
+-- and nothing is new
+pub removed_from : {e : Entry} {es after : List Entry} {j : Key} {i : ℕ} {f : Entry} → Removed e es after → TrackedAt j after i f → (p : ℕ) × TrackedAt j es p f
+removed_from {e} {es} {after} {j} {i} {f} r a =
+    let P : Entry → Type 0 = λ x. (p : ℕ) × TrackedAt x.key es p x in
+    let h = all_at P (removed_all P r (all_placed es)) a in
+    let Q : Key → Type 0 = λ k. TrackedAt k es h.0 f in
+    (h.0, subst Q a.key h.1)
 
 -- a record of the code is taken out, and the last one put into its gap
 pub swapped_removes : {k : Key} (rs after : List KeyRecord) {i : ℕ} {e : Entry} (r : KeyRecord) → r ≡ get_or rs i r → after ≡ take (length rs - 1) (set rs i (get_or rs (length rs - 1) r)) → TrackedAt k (entries_of rs) i e → (key_of r.key ≡ k) × Removed (entry_of r) (entries_of rs) (entries_of after)

@@ -1,14 +1,14 @@
 -- The smallest part of a path.
-use Rattle.std.proofs.Common.{◌≡◌, ℕ, ◌≤◌, min, true, ◌⊎◌, List, [], ◌∷◌, Some, None, Option, sym, refl, ap, ◌∙◌, inl, inr, ⊎_elim, arith}
-use Rattle.std.specs.List.{AllByRecursion as All, cons_option, filter_map, reduce}
+use Rattle.std.proofs.Common.{◌≡◌, ℕ, ◌≤◌, min, true, ◌⊎◌, List, [], ◌∷◌, Some, None, Option, sym, refl, ap, ◌∙◌, subst, inl, inr, ⊎_elim, arith}
+use Rattle.std.specs.List.{AllByRecursion as All, FoldsTo, cons_option, filter_map, reduce}
 use Rattle.std.specs.Str.{bytes_eq}
 use Rattle.std.proofs.ByRecursion.{All-weaker}
 use Rattle.std.proofs.lemmas.Slice.Eq.{bytes_eq-Decides}
-use Rattle.std.specs.Iterator.{PicksByCmp}
-use Rattle.std.specs.Ordering.{nat_cmp, min_by_ordering}
+use Rattle.std.specs.Fn.{Called}
+use Rattle.std.specs.Iterator.{FoldTurn, ReducesItems}
+use denote.Param.Members.{Mut}
 use Rattle.std.proofs.lemmas.Iterator.{YieldsList}
-use Rattle.std.proofs.lemmas.Iterator.Adapters.{option_map_id}
-use Rattle.std.proofs.lemmas.Iterator.Consumers.{min_from_yields_List}
+use Rattle.std.proofs.lemmas.Iterator.Consumers.{reduce_from_yields_List}
 use Rattle.std.proofs.lemmas.Bool.{cases_Bool, cases_lt, cond-true, cond-false, or_left, or_right}
 use Rattle.cache.specs.Keys.{Key, head_key, part_key, key_path, same_key, key_of}
 use Rattle.cache.specs.Tracking.{Entry}
@@ -37,10 +37,22 @@ smallest_is path (r ∷ rs) =
     reduce_min (part_number path (key_of r.key)) (filter_map (λ x. part_number path (key_of x.key)) rs)
     ∙ ap (smaller_of (part_number path (key_of r.key))) (smallest_is path rs)
 
+-- what a closure gives that answers the smaller of two numbers
+abbrev pub GivesSmaller : {F : Type 0} → Mut F (ℕ × (ℕ × Unit {0})) ℕ → F → Type 0
+GivesSmaller {F} g f = (m n r : ℕ) (q : F) → Called g f (m, (n, tt)) r q → (q ≡ f) × (r ≡ min m n)
+
+smaller_turns : {F : Type 0} (g : Mut F (ℕ × (ℕ × Unit {0})) ℕ) (f : F) → GivesSmaller g f → (ns : List ℕ) (p q : F × ℕ) → p.0 ≡ f → FoldsTo {P = F × ℕ} (FoldTurn g) p ns q → FoldsTo (λ a z c. c ≡ min a z) p.1 ns q.1
+smaller_turns g f gives [] p q same run = ap (λ w. w.1) run
+smaller_turns g f gives (n ∷ ns) p q same run =
+    let turn = gives p.1 n run.0.1 run.0.0 (subst (λ w. Called g w (p.1, (n, tt)) run.0.1 run.0.0) same run.1) in
+    (run.0.1, turn.1, smaller_turns g f gives ns run.0 q turn.0 run.2)
+
 -- the least of the numbers of the parts is the smallest part
-pub least_is_smallest : {S : Type 0} {steps : S → Option ℕ → S → Type 0} {s : S} (path : List ℕ) (rs : List KeyRecord) {least : Option ℕ} → PicksByCmp steps min_by_ordering nat_cmp s least → YieldsList steps (λ n. n) s (filter_map (λ r. part_number path (key_of r.key)) rs) → least ≡ smallest_part path (entries_of rs)
-least_is_smallest {s} path rs {least} picked numbers =
-    sym (option_map_id least) ∙ min_from_yields_List s least picked numbers ∙ smallest_is path rs
+pub least_is_smallest : {S F : Type 0} {steps : S → Option ℕ → S → Type 0} {g : Mut F (ℕ × (ℕ × Unit {0})) ℕ} {f : F} {s : S} (path : List ℕ) (rs : List KeyRecord) (least : Option ℕ) → ReducesItems steps g s f least → GivesSmaller g f → YieldsList steps (λ n. n) s (filter_map (λ r. part_number path (key_of r.key)) rs) → least ≡ smallest_part path (entries_of rs)
+least_is_smallest {s = s} path rs None picked gives numbers = reduce_from_yields_List min s None picked numbers ∙ smallest_is path rs
+least_is_smallest {g = g} {f} {s} path rs (Some least) picked gives numbers =
+    reduce_from_yields_List min s (Some least) (picked.0, picked.1, picked.3, smaller_turns g f gives picked.1 (f, picked.0) (picked.2, least) refl picked.4) numbers
+    ∙ smallest_is path rs
 
 -- what a number of a part says of the key
 pub part_of_number : (path : List ℕ) (k : Key) (n : ℕ) → part_number path k ≡ Some n → k ≡ part_key path n

@@ -1,5 +1,5 @@
 -- The table of tracked keys, and its changes.
-use Rattle.std.specs.Prelude.{◌≡◌, ℕ, ◌+◌, ◌-◌, ◌<◌, ◌≤◌, Bool, true, false, not, ◌&&◌, ◌||◌, ◌⊎◌, List, [], ◌∷◌, ◌++◌, map, length, take, ℤ, ◌≢◌, slice_index_or, slice_set}
+use Rattle.std.specs.Prelude.{◌≡◌, ℕ, ◌+◌, ◌-◌, ◌^◌, ◌<◌, ◌≤◌, Bool, true, false, not, ◌&&◌, ◌||◌, ◌⊎◌, List, [], ◌∷◌, ◌++◌, map, length, take, ℤ, ◌≢◌, slice_index_or, slice_set}
 use Rattle.std.specs.List.{AllByRecursion}
 use Rattle.cache.specs.Keys.{Key, head_key, part_key, key_path, same_key, key_of}
 use Rattle.cache.specs.Tracking.{Entry}
@@ -28,10 +28,11 @@ abbrev pub once : List Entry → Bool
 once [] = true
 once (e ∷ es) = not (tracks e.key es) && once es
 
--- what is true of the keys of every index: at most 256, none twice
+-- what is true of the keys of every index: at most 256, none twice, and each size is one of the code
 pub record IsTable (es : List Entry) : Type 0 where
   pub few : length es ≤ 256
   pub distinct : once es ≡ true
+  pub sized : AllByRecursion (λ e. e.size < 2 ^ 64) es
 
 -- the time of one key is set, and nothing else
 pub record Touched (k : Key) (time : ℤ) (es after : List Entry) : Type 0 where

@@ -2,7 +2,7 @@
 ghost use Rattle.std.specs.Prelude.{◌≡◌};
 ghost use Rattle.cache.specs.Keys.{key_of, path_bytes};
 ghost use Rattle.index.specs.Parts.{part_number, smallest_part};
-ghost use Rattle.index.specs.Table.{PathRemoved};
+ghost use Rattle.index.specs.Table.{IsTable, PathRemoved};
 
 use crate::index::Index;
 use cache::CacheKey;
@@ -22,7 +22,9 @@ fn part_of(key: &CacheKey, path: &Path) -> Option<PartID>
 impl Index {
     // The head first, then the parts upward.
     pub fn remove_path(&mut self, path: Path)
-        ensures { PathRemoved (path_bytes path) self.old self.new }
+        ensures answer { PathRemoved (path_bytes path) self.old self.new }
+        ensures table { IsTable self.old }
+        ensures after { IsTable self.new }
     {
         let _ = self.remove_entry(&CacheKey::Head(path));
         while let Some(part) = self.smallest_part(&path) {
@@ -30,14 +32,16 @@ impl Index {
         }
     }
 
-    // The tracked part of a path with the smallest number.
+    // The tracked part of a path with the smallest number. The step is written out, where `min` would hide it, so that a
+    // must-fail edit can turn it alone.
     fn smallest_part(&self, path: &Path) -> Option<PartID>
-        ensures { result ≡ smallest_part (path_bytes path.now) self.now }
+        ensures smallest { result ≡ smallest_part (path_bytes path.now) self.now }
+        ensures table { IsTable self.now }
     {
         self.table
             .records
             .iter()
             .filter_map(|record| part_of(&record.key, path))
-            .min()
+            .reduce(|m, n| m.min(n))
     }
 }

@@ -35,27 +35,32 @@ impl Index {
 
     // The sum of the tracked sizes.
     pub fn total(&self) -> u128
-        ensures { result ≡ sizes self.now }
+        ensures value { result ≡ sizes self.now }
+        ensures table { IsTable self.now }
     {
         self.total
     }
 
     // Where a key is tracked.
     fn find(&self, key: &CacheKey) -> Option<usize>
-        ensures { MatchOption result (tracks (key_of key.now) self.now ≡ false) (λ i. ((e : Entry) × TrackedAt (key_of key.now) self.now i e)) }
+        ensures found { MatchOption result (tracks (key_of key.now) self.now ≡ false) (λ i. ((e : Entry) × TrackedAt (key_of key.now) self.now i e)) }
+        ensures table { IsTable self.now }
     {
         self.table.records.iter().position(|r| r.key == *key)
     }
 
     pub fn is_tracked(&self, key: &CacheKey) -> bool
-        ensures { result ≡ tracks (key_of key.now) self.now }
+        ensures answer { result ≡ tracks (key_of key.now) self.now }
+        ensures table { IsTable self.now }
     {
         self.find(key).is_some()
     }
 
     // Sets the access time of a tracked key, and of no other; answers whether it is tracked.
     pub fn set_access_time(&mut self, key: &CacheKey, time: i64) -> bool
-        ensures { MatchBool result (Touched (key_of key.now) time self.old self.new) ((tracks (key_of key.now) self.old ≡ false) × (self.new ≡ self.old)) }
+        ensures answer { MatchBool result (Touched (key_of key.now) time self.old self.new) ((tracks (key_of key.now) self.old ≡ false) × (self.new ≡ self.old)) }
+        ensures table { IsTable self.old }
+        ensures after { IsTable self.new }
     {
         let Some(i) = self.find(key) else {
             return false;
@@ -72,7 +77,9 @@ impl Index {
         size: usize,
         time: i64,
     ) -> Result<(), IndexFull>
-        ensures { MatchResult result (λ _. Used (key_of key) size time self.old self.new) (λ _. (tracks (key_of key) self.old ≡ false) × (length self.old ≡ 256) × (self.new ≡ self.old)) }
+        ensures answer { MatchResult result (λ _. Used (key_of key) size time self.old self.new) (λ _. (tracks (key_of key) self.old ≡ false) × (length self.old ≡ 256) × (self.new ≡ self.old)) }
+        ensures table { IsTable self.old }
+        ensures after { IsTable self.new }
     {
         if self.set_access_time(&key, time) {
             return Ok(());
@@ -91,6 +98,7 @@ impl Index {
     pub fn remove_entry(&mut self, key: &CacheKey) -> Option<KeyRecord>
         ensures answer { MatchOption result ((tracks (key_of key.now) self.old ≡ false) × (self.new ≡ self.old)) (λ gone. (key_of gone.key ≡ key_of key.now) × Removed (entry_of gone) self.old self.new) }
         ensures table { IsTable self.old }
+        ensures after { IsTable self.new }
     {
         let i = self.find(key)?;
         let gone = self.table.take_out(i);

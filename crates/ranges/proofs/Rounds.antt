@@ -1,7 +1,5 @@
 -- Where the multiples of a part size lie.
-use Rattle.std.proofs.Common.{◌≡◌, ℕ, ◌+◌, ◌-◌, ◌*◌, ◌/◌, ◌%◌, ◌^◌, ◌<◌, ◌≤◌, ap, ◌∙◌, ⊎_elim, mod-lt, div-add-mod', eq-zero-or-pos, arith}
-use Rattle.std.proofs.Math.Nat.{mod_self, mod-eq_of_lt}
-use Rattle.std.specs.Int.{next_multiple_of}
+use Rattle.std.proofs.Common.{◌≡◌, ℕ, ◌+◌, ◌-◌, ◌*◌, ◌/◌, ◌%◌, ◌^◌, ◌<◌, ◌≤◌, mod-lt, div-add-mod', arith}
 use Rattle.ranges.specs.Rounding.{Down, Up, Overflows}
 
 -- one multiple more is one part more
@@ -26,16 +24,12 @@ module _ (p n : ℕ) (h : 0 < p) where
   pub down_of : Down p n (n - n % p)
   down_of = record { multiple = (n / p, omega (arith, div-add-mod' n p)); not_beyond = omega arith; near = omega (arith, mod-lt n h, div-add-mod' n p) }
 
-  pub up_of : Up p n (next_multiple_of n p)
-  up_of =
-      ⊎_elim
-      (λ (e : n % p ≡ 0).
-      let none : (p - n % p) % p ≡ 0 = ap (λ k. k % p) (omega arith) ∙ mod_self p in
-      record { multiple = (n / p, omega (arith, div-add-mod' n p)); not_before = omega arith; near = omega arith })
-      (λ (e : 0 < n % p).
-      let more : (p - n % p) % p ≡ p - n % p = mod-eq_of_lt (omega arith) in
-      record { multiple = (n / p + 1, omega (arith, div-add-mod' n p, times_more p (n / p), mod-lt n h)); not_before = omega arith; near = omega (arith, mod-lt n h) })
-      (eq-zero-or-pos (n % p))
+  pub rest_here : n % p ≡ 0 → Up p n n
+  rest_here e = record { multiple = (n / p, omega (arith, div-add-mod' n p)); not_before = omega arith; near = omega arith }
 
-  pub overflows_of : 2 ^ 64 ≤ next_multiple_of n p → Overflows p n
-  overflows_of f = record { past = λ m u. omega (arith, up_same p n m (next_multiple_of n p) u up_of, f) }
+  pub rest_above : 0 < n % p → Up p n (n + (p - n % p))
+  rest_above e =
+      record { multiple = (n / p + 1, omega (arith, div-add-mod' n p, times_more p (n / p), mod-lt n h)); not_before = omega arith; near = omega (arith, mod-lt n h) }
+
+  pub overflows_of : 0 < n % p → 2 ^ 64 ≤ n + (p - n % p) → Overflows p n
+  overflows_of e f = record { past = λ m u. omega (arith, up_same p n m (n + (p - n % p)) u (rest_above e), f) }

@@ -39,10 +39,15 @@ impl PartSize {
     }
 
     // The smallest multiple that is not before `n`, where a u64 holds it.
-    #[tactic(auto, using(crate::proofs::Rounds::up_of, crate::proofs::Rounds::overflows_of))]
+    #[tactic(auto, using(crate::proofs::Rounds::rest_here, crate::proofs::Rounds::rest_above, crate::proofs::Rounds::overflows_of))]
     pub fn round_up(self, n: u64) -> Option<u64>
         ensures { MatchOption result (Overflows self.bytes n) (λ m. Up self.bytes n m × (m < 2 ^ 64)) }
     {
-        n.checked_next_multiple_of(self.bytes)
+        let rest = n % self.bytes;
+        if rest == 0 {
+            Some(n)
+        } else {
+            n.checked_add(self.bytes - rest)
+        }
     }
 }

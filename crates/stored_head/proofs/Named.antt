@@ -1,6 +1,6 @@
 -- The attributes of a stored head.
-use Rattle.std.proofs.Common.{◌≡◌, ℕ, ◌+◌, ◌<◌, List, [], ◌∷◌, ◌++◌, length, get_or, take, drop, sym, refl, ap, ◌∙◌, subst, append_assoc, append-nil, arith, length-drop}
-use Rattle.std.proofs.lemmas.List.{take_more, take-append-drop, length-take-le, length-map, map-append}
+use Rattle.std.proofs.Common.{◌≡◌, ℕ, ◌+◌, ◌<◌, ◌≤◌, List, [], ◌∷◌, ◌++◌, length, get_or, take, drop, sym, refl, ap, ◌∙◌, subst, append_assoc, append-nil, arith, length-append, length-drop}
+use Rattle.std.proofs.lemmas.List.{take_more, take_all, take-append-drop, length-take-le, length-map, map-append}
 use Rattle.records.specs.declared.attribute.AttributeEntry.{AttributeEntry}
 use Rattle.records.specs.Limits.{KeyLong}
 use Rattle.stored_head.specs.Forms.{sized, SizedFirst, NoSized}
@@ -53,11 +53,29 @@ attributes_free (x ∷ xs) (y ∷ ys) r s l e =
     let both : x ≡ y = ap (λ k. (k, x.1)) key ∙ ap (λ v. (y.0, v)) value in
     (ap (λ p. p ∷ xs) both ∙ ap (λ t. y ∷ t) rest.0, rest.1)
 
--- the first i + 1 entries
-pub form_more : (es : List AttributeEntry) (i : ℕ) (e : AttributeEntry) → i < length es → e ≡ get_or es i e
-    → attributes_form (pairs (take (i + 1) es)) ≡ attributes_form (pairs (take i es)) ++ (sized (pair e).0 ++ sized (pair e).1)
-form_more es i e h is =
-    ap (λ xs. attributes_form (pairs xs)) (take_more es i e h ∙ ap (λ x. take i es ++ x ∷ []) (sym is)) ∙ form_push (take i es) e
+module _ (es : List AttributeEntry) (i : ℕ) (e : AttributeEntry) (h : i < length es) (is : e ≡ get_or es i e) where
+  -- the first i + 1 entries
+  pub form_more : attributes_form (pairs (take (i + 1) es)) ≡ attributes_form (pairs (take i es)) ++ (sized (pair e).0 ++ sized (pair e).1)
+  form_more =
+      ap (λ xs. attributes_form (pairs xs)) (take_more es i e h ∙ ap (λ x. take i es ++ x ∷ []) (sym is)) ∙ form_push (take i es) e
+
+  pub form_more_long : length (attributes_form (pairs (take (i + 1) es))) ≡ length (attributes_form (pairs (take i es))) + (2 + length (pair e).0 + length (pair e).1)
+  form_more_long =
+      ap length form_more
+      ∙ omega (arith, length-append (attributes_form (pairs (take i es))) (sized (pair e).0 ++ sized (pair e).1), length-append (sized (pair e).0) (sized (pair e).1))
+
+  -- they have room where all have
+  pub form_more_room : length (attributes_form (pairs (take (i + 1) es))) ≤ length (attributes_form (pairs es))
+  form_more_room =
+      let front : List AttributeEntry = take (i + 1) es in
+      let back : List AttributeEntry = drop (i + 1) es in
+      let all : es ≡ front ++ back = sym (take-append-drop (i + 1) es) in
+      let forms : attributes_form (pairs es) ≡ attributes_form (pairs front) ++ attributes_form (pairs back) =
+      ap (λ xs. attributes_form (pairs xs)) all ∙ ap attributes_form (map-append pair front back) ∙ form_append (pairs front) (pairs back) in
+      omega (arith, ap length forms, length-append (attributes_form (pairs front)) (attributes_form (pairs back)))
+
+pub form_all : (es : List AttributeEntry) (i : ℕ) → length es ≤ i → attributes_form (pairs (take i es)) ≡ attributes_form (pairs es)
+form_all es i h = ap (λ xs. attributes_form (pairs xs)) (take_all i es h)
 
 -- an attribute is a name and then a value
 pub no_name : (bytes : List ℕ) → NoSized bytes 1 32 → NoEntry bytes

@@ -1,5 +1,5 @@
 -- The stored form of what a head holds. A length is at most 64, so that its number is one group, itself.
-use Rattle.std.specs.Prelude.{◌≡◌, ℕ, ◌+◌, ◌≤◌, List, [], ◌∷◌, ◌++◌, length, Some, None, Option, ◌≢◌}
+use Rattle.std.specs.Prelude.{◌≡◌, ℕ, ◌+◌, ◌≤◌, List, [], ◌∷◌, ◌++◌, length, take, drop, Some, None, Option, ◌≢◌}
 
 -- a key or a value: its length and its bytes
 abbrev pub sized : List ℕ → List ℕ
@@ -9,6 +9,11 @@ sized bs = length bs ∷ bs
 abbrev pub label_form : Option (List ℕ) → List ℕ
 label_form None = 0 ∷ []
 label_form (Some bs) = (length bs + 1) ∷ bs
+
+-- bs was written at `at`, and ends before `next`; all else is as it was
+pub record Wrote (out : List ℕ) (at : ℕ) (bs : List ℕ) (next : ℕ) (after : List ℕ) : Type 0 where
+  pub place : next ≡ at + length bs
+  pub joined : after ≡ take at out ++ (bs ++ drop next out)
 
 -- a key or value of `least` to `most` bytes comes first, and `rest` is behind it
 pub record SizedFirst (bytes : List ℕ) (least most : ℕ) (bs rest : List ℕ) : Type 0 where

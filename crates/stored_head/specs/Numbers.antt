@@ -1,5 +1,5 @@
 -- Numbers as a stored head has them.
-use Rattle.std.specs.Prelude.{◌≡◌, ℕ, ◌+◌, ◌*◌, ◌^◌, ◌<◌, List, [], ◌∷◌, ◌++◌, ◌≢◌}
+use Rattle.std.specs.Prelude.{◌≡◌, ℕ, ◌+◌, ◌*◌, ◌^◌, ◌<◌, List, [], ◌∷◌, ◌++◌, length, take, drop, ◌≢◌}
 
 -- bs is the stored form of n: groups of seven bits, the lowest first, each but the last with its high bit set,
 -- and as few as there can be, since the last of several is not 0
@@ -22,7 +22,8 @@ pub record NumberFirst (bytes : List ℕ) (more n : ℕ) (rest : List ℕ) : Typ
 pub record NoNumber (bytes : List ℕ) (more : ℕ) : Type 0 where
   pub never : (n : ℕ) (bs rest : List ℕ) → n < 128 ^ (more + 1) → Number bs n → bytes ≢ bs ++ rest
 
--- the form of n was written behind what was there
-pub record NumberBehind (before : List ℕ) (n : ℕ) (after : List ℕ) : Type 0 where
+-- the form of n was written at `at`, and ends before `next`
+pub record NumberWritten (out : List ℕ) (at n next : ℕ) (after : List ℕ) : Type 0 where
   pub formed : Formed n
-  pub joined : after ≡ before ++ formed.bytes
+  pub place : next ≡ at + length formed.bytes
+  pub joined : after ≡ take at out ++ (formed.bytes ++ drop next out)

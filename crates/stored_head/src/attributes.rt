@@ -1,6 +1,7 @@
 // The attributes of a stored head, each by its name and its value.
-ghost use Rattle.std.specs.Prelude.{◌≡◌, ◌+◌, ◌≤◌, ◌++◌, length, MatchOption};
+ghost use Rattle.std.specs.Prelude.{◌≡◌, ◌+◌, ◌≤◌, length, MatchOption};
 ghost use Rattle.records.specs.Bytes.{entries_of};
+ghost use Rattle.stored_head.specs.Forms.{Wrote};
 ghost use Rattle.stored_head.specs.Heads.{pairs, attributes_form, NoEntry, EntryFirst, NoAttributes, AttributesFirst};
 
 use crate::bytes::push_sized;
@@ -8,11 +9,25 @@ use crate::form::Form;
 use crate::reader::Reader;
 use records::{Attribute, AttributeEntry, Attributes, Key};
 
+// How many bytes they take.
+pub(crate) fn attributes_len(entries: &[AttributeEntry]) -> usize
+    requires { length entries.now ≤ 8 }
+    ensures value { result ≡ length (attributes_form (pairs entries.now)) }
+    ensures bound { result ≤ 784 }
+{
+    let mut len = 0;
+    for entry in entries {
+        len += 2 + entry.attribute.name().len() + entry.value.as_slice().len();
+    }
+    len
+}
+
 // Writes them one after the other.
-pub(crate) fn push_attributes(form: &mut Form, entries: &[AttributeEntry])
-    requires few { length entries.now ≤ 8 }
-    requires room { length form.old.items + 784 ≤ 927 }
-    ensures { form.new.items ≡ form.old.items ++ attributes_form (pairs entries.now) }
+pub(crate) fn push_attributes(form: &mut Form<'_>, entries: &[AttributeEntry])
+    requires { form.old.len + length (attributes_form (pairs entries.now)) ≤ length form.old.room.now }
+    ensures slice { form.new.room.ghost_name ≡ form.old.room.ghost_name }
+    ensures long { length form.new.room.now ≡ length form.old.room.now }
+    ensures behind { Wrote form.old.room.now form.old.len (attributes_form (pairs entries.now)) form.new.len form.new.room.now }
 {
     for entry in entries {
         push_sized(form, entry.attribute.name());

@@ -1,7 +1,7 @@
 // Byte strings with their lengths. A length is at most 64, and so a number of one group.
 ghost use Rattle.std.specs.Prelude.{◌≡◌, ◌+◌, ◌<◌, ◌≤◌, ◌∷◌, ◌++◌, length, MatchOption};
 ghost use Rattle.records.specs.Bytes.{bytes_of, label_of};
-ghost use Rattle.stored_head.specs.Forms.{sized, label_form, NoSized, SizedFirst, NoLabel, LabelFirst, NoCount, CountFirst};
+ghost use Rattle.stored_head.specs.Forms.{Wrote, sized, label_form, NoSized, SizedFirst, NoLabel, LabelFirst, NoCount, CountFirst};
 
 use crate::form::Form;
 use crate::reader::Reader;
@@ -16,32 +16,48 @@ fn present_mark(len: usize) -> u8
 }
 
 // One byte, and bytes behind it.
-fn push_marked(form: &mut Form, mark: u8, bytes: &[u8])
-    requires { length form.old.items + length bytes.now < 927 }
-    ensures { form.new.items ≡ form.old.items ++ mark ∷ bytes.now }
+fn push_marked(form: &mut Form<'_>, mark: u8, bytes: &[u8])
+    requires { form.old.len + length (mark ∷ bytes.now) ≤ length form.old.room.now }
+    ensures slice { form.new.room.ghost_name ≡ form.old.room.ghost_name }
+    ensures long { length form.new.room.now ≡ length form.old.room.now }
+    ensures behind { Wrote form.old.room.now form.old.len (mark ∷ bytes.now) form.new.len form.new.room.now }
 {
     form.push(mark);
-    form.try_extend_from_slice(bytes).unwrap();
+    form.extend(bytes);
 }
 
 // A key or a value.
-pub(crate) fn push_sized(form: &mut Form, bytes: &[u8])
+pub(crate) fn push_sized(form: &mut Form<'_>, bytes: &[u8])
     requires few { length bytes.now ≤ 64 }
-    requires room { length form.old.items + length bytes.now < 927 }
-    ensures { form.new.items ≡ form.old.items ++ sized bytes.now }
+    requires room { form.old.len + length (sized bytes.now) ≤ length form.old.room.now }
+    ensures slice { form.new.room.ghost_name ≡ form.old.room.ghost_name }
+    ensures long { length form.new.room.now ≡ length form.old.room.now }
+    ensures behind { Wrote form.old.room.now form.old.len (sized bytes.now) form.new.len form.new.room.now }
 {
     push_marked(form, bytes.len() as u8, bytes);
 }
 
 // An e_tag or a version.
-pub(crate) fn push_label(form: &mut Form, label: &Label)
-    requires { length form.old.items + 64 < 927 }
-    ensures behind { form.new.items ≡ form.old.items ++ label_form (label_of label.now) }
-    ensures bound { length form.new.items ≤ length form.old.items + 65 }
+pub(crate) fn push_label(form: &mut Form<'_>, label: &Label)
+    requires { form.old.len + length (label_form (label_of label.now)) ≤ length form.old.room.now }
+    ensures slice { form.new.room.ghost_name ≡ form.old.room.ghost_name }
+    ensures long { length form.new.room.now ≡ length form.old.room.now }
+    ensures behind { Wrote form.old.room.now form.old.len (label_form (label_of label.now)) form.new.len form.new.room.now }
 {
     match label.get() {
         Some(bytes) => push_marked(form, present_mark(bytes.len()), bytes),
         None => push_marked(form, 0, &[]),
+    }
+}
+
+// How many bytes an e_tag or a version takes.
+pub(crate) fn label_len(label: &Label) -> usize
+    ensures value { result ≡ length (label_form (label_of label.now)) }
+    ensures bound { result ≤ 65 }
+{
+    match label.get() {
+        Some(bytes) => bytes.len() + 1,
+        None => 1,
     }
 }
 

@@ -1,18 +1,30 @@
 // The stored form of a whole head.
-ghost use Rattle.std.specs.Prelude.{◌≤◌};
-ghost use Rattle.stored_head.specs.Heads.{data_of, Stored, Long, SaveAnswer};
+ghost use Rattle.std.specs.Prelude.{ℕ, ◌≤◌, List, length};
+ghost use Rattle.stored_head.specs.Heads.{data_of, Stored, Saved, Long, SaveAnswer};
 
-use crate::attributes::push_attributes;
-use crate::bytes::push_label;
+use crate::attributes::{attributes_len, push_attributes};
+use crate::bytes::{label_len, push_label};
 use crate::form::Form;
-use crate::numbers::push_number;
+use crate::numbers::{number_len, push_number};
 use records::{BufferTooShort, Head};
 
-// The stored form of a head.
-fn form_of(head: &Head) -> Form
-    ensures { Stored (data_of head.now) result.items }
+// How many bytes the stored form of a head has, at most 927.
+pub fn stored_len(head: &Head) -> usize
+    ensures long { Long (data_of head.now) result }
+    ensures bound { result ≤ 927 }
 {
-    let mut form = Form::new();
+    let numbers = number_len(head.size(), 5) + number_len(head.time(), 5);
+    let labels = label_len(&head.e_tag) + label_len(&head.version);
+    numbers + labels + 1 + attributes_len(head.attributes.as_slice())
+}
+
+// Writes the stored form of a head at the beginning of a slice that has room for it, and answers how many bytes
+// it has.
+fn write_form(head: &Head, out: &mut [u8]) -> usize
+    requires { (bs : List ℕ) → Stored (data_of head.now) bs → length bs ≤ length out.old }
+    ensures { Saved out.old (data_of head.now) result out.new }
+{
+    let mut form = Form { room: out, len: 0 };
     push_number(&mut form, head.size(), 5);
     push_number(&mut form, head.time(), 5);
     push_label(&mut form, &head.e_tag);
@@ -20,16 +32,7 @@ fn form_of(head: &Head) -> Form
     let entries = head.attributes.as_slice();
     form.push(entries.len() as u8);
     push_attributes(&mut form, entries);
-    form
-}
-
-// How many bytes the stored form of a head has, at most 927. It is put together for it, so that a length cannot
-// differ from what is written.
-pub fn stored_len(head: &Head) -> usize
-    ensures long { Long (data_of head.now) result }
-    ensures bound { result ≤ 927 }
-{
-    form_of(head).len()
+    form.len
 }
 
 // Writes the stored form of a head at the beginning of a slice, and answers how many bytes it has.
@@ -37,12 +40,10 @@ pub fn stored_len(head: &Head) -> usize
 pub fn save(head: &Head, out: &mut [u8]) -> Result<usize, BufferTooShort>
     ensures { SaveAnswer out.old (data_of head.now) result out.new }
 {
-    let form = form_of(head);
-    let needed = form.len();
+    let needed = stored_len(head);
     let length = out.len();
     if length < needed {
         return Err(BufferTooShort { length, needed });
     }
-    out[0..needed].copy_from_slice(form.as_slice());
-    Ok(needed)
+    Ok(write_form(head, out))
 }

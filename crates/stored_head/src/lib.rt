@@ -1,6 +1,6 @@
 // The form in which a cache keeps a head.
 //
-// Uses `ranges` and `records`, and `arrayvec` of the toolchain.
+// Uses `ranges` and `records`.
 // Promises: writing gives exactly the stored form of a head, or refuses a slice that is too short for it
 // (4) and leaves it as it was; reading accepts exactly the stored forms of heads within their limits.
 #![tactic(auto)]

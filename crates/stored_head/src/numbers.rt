@@ -1,6 +1,6 @@
 // Numbers in groups of seven bits, the lowest first.
-ghost use Rattle.std.specs.Prelude.{◌≡◌, ◌+◌, ◌%◌, ◌^◌, ◌<◌, ◌≤◌, length, MatchOption};
-ghost use Rattle.stored_head.specs.Numbers.{NoNumber, NumberFirst, NumberBehind};
+ghost use Rattle.std.specs.Prelude.{◌≡◌, ℕ, ◌+◌, ◌%◌, ◌^◌, ◌<◌, ◌≤◌, List, length, MatchOption};
+ghost use Rattle.stored_head.specs.Numbers.{Number, NoNumber, NumberFirst, NumberWritten};
 
 use crate::form::Form;
 use crate::reader::Reader;
@@ -26,6 +26,19 @@ impl<'a> Reader<'a> {
     }
 }
 
+// How many bytes a number below 128^(more + 1) takes.
+pub(crate) fn number_len(n: u64, more: usize) -> usize
+    requires below { n < 128 ^ (more + 1) }
+    requires few { more ≤ 8 }
+    ensures bound { result ≤ more + 1 }
+    ensures long { (bs : List ℕ) → Number bs n → length bs ≡ result }
+{
+    if n < 128 {
+        return 1;
+    }
+    number_len(n / 128, more - 1) + 1
+}
+
 // The lowest group of a number that has more.
 fn low_group(n: u64) -> u8
     ensures { result ≡ 128 + n % 128 }
@@ -34,11 +47,12 @@ fn low_group(n: u64) -> u8
 }
 
 // Writes a number below 128^(more + 1).
-pub(crate) fn push_number(form: &mut Form, n: u64, more: usize)
+pub(crate) fn push_number(form: &mut Form<'_>, n: u64, more: usize)
     requires below { n < 128 ^ (more + 1) }
-    requires room { length form.old.items + more < 927 }
-    ensures behind { NumberBehind form.old.items n form.new.items }
-    ensures bound { length form.new.items ≤ length form.old.items + more + 1 }
+    requires room { (bs : List ℕ) → Number bs n → form.old.len + length bs ≤ length form.old.room.now }
+    ensures slice { form.new.room.ghost_name ≡ form.old.room.ghost_name }
+    ensures long { length form.new.room.now ≡ length form.old.room.now }
+    ensures behind { NumberWritten form.old.room.now form.old.len n form.new.len form.new.room.now }
 {
     if n < 128 {
         form.push(n as u8);

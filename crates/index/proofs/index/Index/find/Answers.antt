@@ -6,8 +6,8 @@ use Rattle.index.proofs.Places.{searched}
 use Rattle.index.proofs.index.Index.find.Goals as goal
 use borrow.Author.Tests.{tests}
 
-pub returns : goal.returns
-returns c =
+pub returns-clause-found : goal.returns-clause-found
+returns-clause-found c =
     let k = key_of c.args.key.now in
     let Yes : KeyRecord → Type 0 = λ r. key_of r.key ≡ k in
     let No : KeyRecord → Type 0 = λ r. same_key (key_of r.key) k ≡ false in

@@ -9,6 +9,6 @@ found_is_tracked : (k : Key) (es : List Entry) (o : Option ℕ) → MatchOption 
 found_is_tracked k es None f = sym f
 found_is_tracked k es (Some i) p = sym (tracks_at p.1)
 
-pub returns : goal.returns
-returns c =
-    c.is_some.ensures ∙ found_is_tracked (key_of c.args.key.now) c.args.self.now c.find.result c.find.ensures
+pub returns-clause-answer : goal.returns-clause-answer
+returns-clause-answer c =
+    c.is_some.ensures ∙ found_is_tracked (key_of c.args.key.now) c.args.self.now c.find.result c.find.ensures.found

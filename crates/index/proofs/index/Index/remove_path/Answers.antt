@@ -38,7 +38,7 @@ loop-part-smaller c =
     let path = path_bytes c.args.path in
     let old = c.loop-part.self in
     let new = c.remove_entry-in-Some.new.self in
-    let out = taken_out (part_key path c.in-Some.part) old new c.remove_entry-in-Some.result c.remove_entry-in-Some.ensures.answer (smallest_tracked path old c.in-Some.part c.in-Some.ensures) in
+    let out = taken_out (part_key path c.in-Some.part) old new c.remove_entry-in-Some.result c.remove_entry-in-Some.ensures.answer (smallest_tracked path old c.in-Some.part c.in-Some.ensures.smallest) in
     let fewer = removed_length out.2 in
     omega arith
 
@@ -47,10 +47,13 @@ loop-part-preserved c =
     let path = path_bytes c.args.path in
     let old = c.loop-part.self in
     let new = c.remove_entry-in-Some.new.self in
-    let out = taken_out (part_key path c.in-Some.part) old new c.remove_entry-in-Some.result c.remove_entry-in-Some.ensures.answer (smallest_tracked path old c.in-Some.part c.in-Some.ensures) in
-    part_gone path c.in-Some.part c.loop-part.invariant c.remove_entry-in-Some.ensures.table.distinct c.in-Some.ensures out.2 out.1
+    let out = taken_out (part_key path c.in-Some.part) old new c.remove_entry-in-Some.result c.remove_entry-in-Some.ensures.answer (smallest_tracked path old c.in-Some.part c.in-Some.ensures.smallest) in
+    part_gone path c.in-Some.part c.loop-part.invariant c.remove_entry-in-Some.ensures.table.distinct c.in-Some.ensures.smallest out.2 out.1
 
-pub returns : goal.returns
-returns c =
+pub returns-clause-answer : goal.returns-clause-answer
+returns-clause-answer c =
     whole (path_bytes c.args.path) c.args.self.now c.remove_entry.new.self c.loop-part.self c.remove_entry.result
-    c.remove_entry.ensures.answer c.loop-part.invariant (sym c.in_default.ensures)
+    c.remove_entry.ensures.answer c.loop-part.invariant (sym c.in_default.ensures.smallest)
+
+pub returns-clause-after : goal.returns-clause-after
+returns-clause-after c = c.smallest_part.ensures.table

@@ -3,4 +3,4 @@ use Rattle.ranges.proofs.Rounds.{down_of}
 use Rattle.ranges.proofs.part_size.PartSize.round_down.Goals as goal
 
 pub returns : goal.returns
-returns c = down_of c.args.self.bytes c.args.n (omega arith)
+returns c = search (arith, down_of)
