@@ -1,9 +1,10 @@
 -- What is left of a number is worked out right, and there is one answer.
-use Rattle.std.proofs.Common.{◌≡◌, ℕ, zero, suc, ◌+◌, ◌-◌, ◌*◌, ◌/◌, ◌%◌, ◌<◌, true, ℤ, pos, negsuc, ◌+ℤ◌, ◌*ℤ◌, int_lt, nat_abs, sym, refl, ap, ◌∙◌, subst, mod-lt, mod-eq_of_lt, suc-mul, arith}
+use Rattle.std.proofs.Common.{◌≡◌, ℕ, zero, suc, ◌+◌, ◌-◌, ◌*◌, ◌/◌, ◌%◌, ◌<◌, true, false, ℤ, pos, negsuc, ◌+ℤ◌, ◌-ℤ◌, ◌*ℤ◌, nat_abs, sym, refl, ap, ◌∙◌, subst, mod-lt, mod-eq_of_lt, suc-mul, arith}
 use native.Mathlib.Nat.{mod-add-div'}
 use lib.Arith.{digits_mod}
+use lib.Signed.{le_z}
 use Rattle.std.specs.Int.{int_rem_euclid}
-use Rattle.std.proofs.lemmas.Bool.{both_ways, le-ltb}
+use Rattle.std.proofs.lemmas.Bool.{both_ways, le-leb}
 use Rattle.std.proofs.lemmas.Int.{ints, int_rem_euclid_is}
 use Rattle.hosts.specs.Numbers.{LeftOver}
 
@@ -65,20 +66,17 @@ left_by_rem {x} {n} {r} some is =
     let worked = one_remainder x (times_in x n) n (remainder x n) (remainder_below x n some) (remainder_is x n some) in
     subst (λ s. LeftOver x n s) (ap nat_abs (sym worked ∙ is)) (remainder_left x n some)
 
--- what the code works out: what is left of the size, where the number is not negative or nothing is left
-pub left_of_size : {x : ℤ} {n r : ℕ} → 0 < n → r ≡ nat_abs x % n → (int_lt x (pos 0) ≡ true → r ≡ 0) → LeftOver x n r
-left_of_size {x = pos m} some is none = left_by_rem some (ap pos (sym is))
-left_of_size {x = negsuc m} {n} {r} some is none =
-    let whole = none refl in
-    let parts = mod-add-div' (suc m) n in
-    let nothing : 0 % n ≡ r = mod-eq_of_lt some ∙ sym whole in
-    left_by_rem some (int_rem_euclid_is (negsuc m) (pos n) n (suc m / n) 0 some refl (omega (arith, ints)) ∙ ap pos nothing)
+-- what the code works out of a number that is not negative
+pub left_of_pos : {x : ℤ} {n r : ℕ} → le_z (pos 0) x ≡ true → 0 < n → r ≡ nat_abs x % n → LeftOver x n r
+unfolding remainder
+left_of_pos {x = pos m} {n} up some is = subst (λ s. LeftOver (pos m) n s) (sym is) (remainder_left (pos m) n some)
+left_of_pos {x = negsuc m} up some is = absurd (both_ways (le_z (pos 0) (negsuc m)) refl up)
 
--- else what the size lacks of a multiple of n
-pub left_up_to : {x : ℤ} {n r : ℕ} → 0 < n → r + nat_abs x % n ≡ n → 0 < nat_abs x % n → int_lt x (pos 0) ≡ true → LeftOver x n r
-left_up_to {x = pos m} some is rest below = absurd (both_ways (int_lt (pos m) (pos 0)) (le-ltb m 0 (omega arith)) below)
-left_up_to {x = negsuc m} {n} {r} some is rest below =
-    let parts = mod-add-div' (suc m) n in
-    let one_more = suc-mul (suc m / n) n in
-    left_by_rem some
-    (int_rem_euclid_is (negsuc m) (pos n) n (suc (suc m / n)) r some refl (omega (arith, ints)) ∙ ap pos (mod-eq_of_lt (omega arith)))
+-- and of a negative one
+pub left_of_neg : {x : ℤ} {n r : ℕ} → le_z (pos 0) x ≡ false → 0 < n → r ≡ n - 1 - nat_abs (pos 0 -ℤ (x +ℤ pos 1)) % n → LeftOver x n r
+unfolding remainder
+left_of_neg {x = pos m} down some is = absurd (both_ways (le_z (pos 0) (pos m)) down (le-leb 0 m (omega arith)))
+left_of_neg {x = negsuc m} {n} {r} down some is =
+    let size : nat_abs (pos 0 -ℤ (negsuc m +ℤ pos 1)) ≡ m = omega (arith, ints) in
+    let worked : r ≡ n - 1 - m % n = is ∙ ap (λ k. n - 1 - k % n) size in
+    subst (λ s. LeftOver (negsuc m) n s) (sym worked) (remainder_left (negsuc m) n some)

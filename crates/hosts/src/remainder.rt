@@ -8,7 +8,10 @@ pub(crate) fn left_over(x: i64, n: usize) -> usize
     if n == 0 {
         return 0;
     }
-    // of the size first, in one division of 64 bits: n may be larger than every i64
-    let rest = (x.unsigned_abs() % n as u64) as usize;
-    if x < 0 && rest > 0 { n - rest } else { rest }
+    if x >= 0 {
+        x as usize % n
+    } else {
+        // -(x + 1) fits where -x may not
+        n - 1 - (-(x + 1)) as usize % n
+    }
 }

@@ -1,26 +1,27 @@
-use Rattle.std.proofs.Common.{◌≡◌, true, pos, int_lt, ◌%◌, nat_abs, sym, ap, ◌∙◌, subst, ⊎_elim, mod-lt, w64, arith}
-use Rattle.std.proofs.lemmas.Bool.{both_ways}
+use Rattle.std.proofs.Common.{◌≡◌, true, false, ◌%◌, pos, ◌+ℤ◌, ◌-ℤ◌, nat_abs, ap, ◌∙◌, subst, w64, to_z, of_z, arith, rules}
 use Rattle.std.proofs.lemmas.Int.{to_z-of_z}
-use Rattle.hosts.proofs.Remainders.{left_of_none, left_of_size, left_up_to}
+use lib.Signed.{le_z}
+use Rattle.hosts.proofs.Remainders.{left_of_none, left_of_pos, left_of_neg}
 use Rattle.hosts.proofs.remainder.left_over.Goals as goal
 
 pub returns-then-n-eq0 : goal.returns-then-n-eq0
 returns-then-n-eq0 c = left_of_none c.if-n-eq0.true
 
-pub returns-then-rest-gt0 : goal.returns-then-rest-gt0
-returns-then-rest-gt0 c =
+pub returns-then-x-ge0 : goal.returns-then-x-ge0
+returns-then-x-ge0 c =
     let same = to_z-of_z w64 c.args.x c.ranges.x in
-    let rest = ap (λ z. nat_abs z % c.args.n) (sym same) ∙ ap (λ k. k % c.args.n) (sym c.unsigned_abs.ensures.value) in
     let some = c.if-n-eq0.false in
-    let low = mod-lt c.unsigned_abs.result {m = c.args.n} (omega (arith, some)) in
-    let more = c.if-rest-gt0.true in
-    left_up_to (omega (arith, some)) (omega (arith, rest, low)) (omega (arith, rest, more)) (subst (λ z. int_lt z (pos 0) ≡ true) same c.if-x-lt0.true)
+    let rest = ap (λ z. nat_abs z % c.args.n) same in
+    left_of_pos (subst (λ z. le_z (pos 0) z ≡ true) same c.if-x-ge0.true) (omega (arith, some)) (omega (arith, rest))
 
-pub returns-else-x-lt0 : goal.returns-else-x-lt0
-returns-else-x-lt0 c =
+pub returns-else-x-ge0 : goal.returns-else-x-ge0
+returns-else-x-ge0 c =
     let same = to_z-of_z w64 c.args.x c.ranges.x in
-    let rest = ap (λ z. nat_abs z % c.args.n) (sym same) ∙ ap (λ k. k % c.args.n) (sym c.unsigned_abs.ensures.value) in
     let some = c.if-n-eq0.false in
-    left_of_size (omega (arith, some)) (omega (arith, rest))
-    (λ below.
-    ⊎_elim (λ low. omega (arith, low.1)) (λ up. absurd (both_ways _ up (subst (λ z. int_lt z (pos 0) ≡ true) (sym same) below))) c.else-x-lt0.either)
+    let negative = subst (λ z. le_z (pos 0) z ≡ false) same c.if-x-ge0.false in
+    let one : to_z w64 (of_z w64 (c.args.x +ℤ pos 1)) ≡ c.args.x +ℤ pos 1 = search rules in
+    let up : to_z w64 (of_z w64 (pos 0 -ℤ (c.args.x +ℤ pos 1))) ≡ pos 0 -ℤ (c.args.x +ℤ pos 1) = search rules in
+    let size =
+    ap (λ z. to_z w64 (of_z w64 (pos 0 -ℤ to_z w64 (of_z w64 (z +ℤ pos 1))))) same ∙ ap (λ z. to_z w64 (of_z w64 (pos 0 -ℤ z))) one ∙ up in
+    let rest = ap (λ z. nat_abs z % c.args.n) size in
+    left_of_neg negative (omega (arith, some)) (omega (arith, rest))
